@@ -1,0 +1,6 @@
+pub mod Cuts
+pub mod Pieces
+pub mod Held
+pub mod Gathering
+pub mod Answering
+pub mod Runs

@@ -1,0 +1,3 @@
+pub mod Reader
+pub mod Gather
+pub mod Bench

@@ -1,0 +1,4 @@
+pub mod Beginning
+pub mod Powering
+pub mod Going
+pub mod Steps

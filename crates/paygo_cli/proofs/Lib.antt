@@ -1,0 +1,4 @@
+pub mod Bytes
+pub mod Turning
+pub mod Looping
+pub mod Faultless

@@ -1,0 +1,19 @@
+// The counts that every source, sink and flash of this crate keeps.
+ghost use Rattle.std.specs.Prelude.{◌≡◌, ◌≤◌};
+ghost use Rattle.paygo_spec.specs.Faults.{Rose};
+ghost use Rattle.paygo_spec.specs.Streams.{raised};
+
+// One fault more. The count stands still at its end.
+pub(crate) fn count_fault(count: &mut u64)
+    ensures later { count.old ≤ count.new }
+    ensures rose { Rose count.old count.new }
+{
+    *count = count.saturating_add(1);
+}
+
+// So many bytes or calls more. The count stands still at its end.
+pub(crate) fn count_taken(count: &mut u64, n: usize)
+    ensures { count.new ≡ raised count.old n }
+{
+    *count = count.saturating_add(n as u64);
+}

@@ -1,0 +1,227 @@
+// A flash in a file. What the system does is trusted: no clause can say which bytes a file holds.
+ghost use Rattle.std.specs.Prelude.{◌≡◌, ◌≤◌, true, false, None, IsErr};
+ghost use Rattle.paygo_spec.specs.Faults.{Rose};
+ghost use Rattle.paygo_spec.specs.Flash.{FlashView, AreWords, Passes, Fails, Becomes, Stay, TornProgram, TornErase, erased_word, erased_bank, same_words};
+
+use crate::counts::count_fault;
+use crate::{Flash, FlashFault};
+use std::fs::{OpenFile, OpenOptions};
+use std::io::{ErrorKind, Read, Seek, SeekFrom, Write};
+use std::rt::Files;
+use std::{fs, io, str};
+
+// How many bytes the file has: 1,024 words of eight bytes.
+const BYTES: usize = 8192;
+
+// How many bytes a bank has: 512 words of eight bytes.
+const BANK_BYTES: usize = 4096;
+
+// How many bytes a path has at most, the end of its new name included: what systems take.
+const LONGEST: usize = 4096;
+
+// What stands behind the path while the file is made.
+const NEW: &str = ".new";
+
+/// A flash in the file at a path. It tells no words and no due.
+///
+/// The file has 8,192 bytes: the word at the place `at` stands at byte 8 * `at`, most significant byte first. It is opened
+/// at the first call. Where no file stands at the path, or an empty one, a flash with all words erased is made: it is
+/// written under the same path with `.new` behind it, synced, and renamed, and the folder is synced, so that a power cut
+/// never leaves a file of another length. A file of another length is a fault, and stays as it is; so is a folder or a
+/// device at the path, and a path that is empty or longer than 4,092 bytes while the file is to be made.
+///
+/// `program` and `erase` each wait until the disk has what was written. After a fault the file is closed; `power_up` opens
+/// it again.
+#[derive(Drop)]
+pub struct FlashFile<'a, R: Files> {
+    rt: &'a R,
+    path: String,
+    file: Option<R::File>,
+    up: bool,
+    faults: u64,
+}
+
+// Whether a flash is still to be made at this path: nothing stands there, or an empty file.
+fn is_unmade<R: Files>(rt: &R, path: &str) -> io::Result<bool> {
+    match fs::metadata(rt, path) {
+        Ok(metadata) => Ok(metadata.is_file() && metadata.len() == 0),
+        Err(e) if e.kind() == ErrorKind::NotFound => Ok(true),
+        Err(e) => Err(e),
+    }
+}
+
+// The path with `.new` behind it, in this buffer.
+fn new_path<'b>(path: &str, buf: &'b mut [u8; LONGEST]) -> io::Result<&'b str> {
+    let length = path.len();
+    if path.is_empty() || length > LONGEST - NEW.len() {
+        return Err(io::Error::from(ErrorKind::InvalidFilename));
+    }
+    let end = length + NEW.len();
+    buf[..length].copy_from_slice(path.as_bytes());
+    buf[length..end].copy_from_slice(NEW.as_bytes());
+    match str::from_utf8(&buf[..end]) {
+        Ok(text) => Ok(text),
+        Err(_) => Err(io::Error::from(ErrorKind::InvalidFilename)),
+    }
+}
+
+// Waits until the disk has the names in the folder of this path.
+fn sync_folder<R: Files>(rt: &R, path: &str) -> io::Result<()> {
+    let folder = match path.rsplit_once('/') {
+        Some(("", _)) => "/",
+        Some((folder, _)) => folder,
+        None => ".",
+    };
+    fs::open(rt, folder)?.sync_all()
+}
+
+// Makes a file with all words erased, whole or not at all.
+fn make_file<R: Files>(rt: &R, path: &str) -> io::Result<()> {
+    let mut buf = [0; LONGEST];
+    let beside = new_path(path, &mut buf)?;
+    let mut file = fs::create(rt, beside)?;
+    file.write_all(&[0xff; BYTES])?;
+    file.sync_all()?;
+    fs::rename(rt, beside, path)?;
+    sync_folder(rt, path)
+}
+
+// Opens the file, and makes it first where it is absent or empty.
+fn open_file<R: Files>(rt: &R, path: &str) -> io::Result<R::File> {
+    if is_unmade(rt, path)? {
+        make_file(rt, path)?;
+    }
+    let file = OpenOptions::new().read(true).write(true).open(rt, path)?;
+    if file.metadata()?.len() != BYTES as u64 {
+        return Err(io::Error::from(ErrorKind::InvalidData));
+    }
+    Ok(file)
+}
+
+// Opens the file where it isn't open yet.
+fn reopen<R: Files>(rt: &R, path: &str, file: &mut Option<R::File>) -> io::Result<()> {
+    if file.is_none() {
+        *file = Some(open_file(rt, path)?);
+    }
+    Ok(())
+}
+
+// The word that starts at this byte.
+fn read_word<F: Read + Seek>(file: &mut Option<F>, start: u64) -> io::Result<u64> {
+    match file {
+        Some(file) => {
+            let mut bytes = [0; 8];
+            file.seek(SeekFrom::Start(start))?;
+            file.read_exact(&mut bytes)?;
+            Ok(u64::from_be_bytes(bytes))
+        }
+        None => Err(io::Error::from(ErrorKind::NotFound)),
+    }
+}
+
+// Writes these bytes from this byte on, and waits until the disk has them.
+fn write_bytes<F: Write + Seek + OpenFile>(
+    file: &mut Option<F>,
+    start: u64,
+    bytes: &[u8],
+) -> io::Result<()> {
+    match file {
+        Some(file) => {
+            file.seek(SeekFrom::Start(start))?;
+            file.write_all(bytes)?;
+            file.sync_data()
+        }
+        None => Err(io::Error::from(ErrorKind::NotFound)),
+    }
+}
+
+impl<'a, R: Files> FlashFile<'a, R> {
+    /// The flash in the file at this path. It is up, and nothing is opened yet.
+    pub fn at(rt: &'a R, path: String) -> FlashFile<'a, R>
+        ensures { ⟦<FlashFile<'a, R> as Flash>⟧.view result ≡
+            record { words = None; up = true; due = None; faults = 0 } }
+    {
+        FlashFile {
+            rt,
+            path,
+            file: None,
+            up: true,
+            faults: 0,
+        }
+    }
+
+    // Closes the file and goes down, with a fault counted.
+    fn fail<T>(&mut self) -> Result<T, FlashFault>
+        ensures err { IsErr result }
+        ensures down { self.new.up ≡ false }
+        ensures later { self.old.faults ≤ self.new.faults }
+        ensures rose { Rose self.old.faults self.new.faults }
+    {
+        self.file = None;
+        self.up = false;
+        count_fault(&mut self.faults);
+        Err(FlashFault)
+    }
+
+    fn try_read(&mut self, start: u64) -> io::Result<u64>
+        ensures up { self.new.up ≡ self.old.up }
+        ensures faults { self.new.faults ≡ self.old.faults }
+    {
+        reopen(self.rt, self.path.as_str(), &mut self.file)?;
+        read_word(&mut self.file, start)
+    }
+
+    fn try_write(&mut self, start: u64, bytes: &[u8]) -> io::Result<()>
+        ensures up { self.new.up ≡ self.old.up }
+        ensures faults { self.new.faults ≡ self.old.faults }
+    {
+        reopen(self.rt, self.path.as_str(), &mut self.file)?;
+        write_bytes(&mut self.file, start, bytes)
+    }
+}
+
+impl<'a, R: Files> Flash for FlashFile<'a, R> {
+    ghost view = { λ f. record { words = None; up = f.up; due = None; faults = f.faults } };
+
+    ghost whole = { λ f. tt };
+
+    fn power_up(&mut self) -> Result<(), FlashFault> {
+        match reopen(self.rt, self.path.as_str(), &mut self.file) {
+            Ok(()) => {
+                self.up = true;
+                Ok(())
+            }
+            Err(_) => self.fail(),
+        }
+    }
+
+    fn read(&mut self, at: u16) -> Result<u64, FlashFault> {
+        if !self.up {
+            return Err(FlashFault);
+        }
+        match self.try_read(8 * u64::from(at)) {
+            Ok(word) => Ok(word),
+            Err(_) => self.fail(),
+        }
+    }
+
+    fn program(&mut self, at: u16, word: u64) -> Result<(), FlashFault> {
+        if !self.up {
+            return Err(FlashFault);
+        }
+        match self.try_write(8 * u64::from(at), &word.to_be_bytes()) {
+            Ok(()) => Ok(()),
+            Err(_) => self.fail(),
+        }
+    }
+
+    fn erase(&mut self, bank: u8) -> Result<(), FlashFault> {
+        if !self.up {
+            return Err(FlashFault);
+        }
+        match self.try_write(4096 * u64::from(bank), &[0xff; BANK_BYTES]) {
+            Ok(()) => Ok(()),
+            Err(_) => self.fail(),
+        }
+    }
+}

@@ -1,0 +1,83 @@
+-- The history of a device: where it starts, and the entries since then, the newest first. So a history J with one
+-- entry e more is `e ∷ J`.
+--
+-- Where a definition takes a number `greatest`, that is the greatest count that the device ever takes.
+use Rattle.std.specs.Prelude.{◌≡◌, ℕ, ◌+◌, ◌-◌, ◌%◌, ◌<◌, ◌≤◌, min, max, Bool, true, false, not, ◌&&◌, ◌||◌, ◌==◌, nat_lt, nat_le, ◌⊎◌, List, [], ◌∷◌, if◌then◌else◌}
+use Rattle.std.specs.Int.{bit_at}
+use Rattle.paygo_spec.specs.declared.Entry.{Entry}
+use Rattle.paygo_spec.specs.declared.Entry.TheVariants.{Accept}
+
+-- Where a history starts: the last count, which of the sixteen counts up to it are used, time left, whether the
+-- device is free, the failures, and the block.
+pub record Summary : Type 0 where
+  pub last : ℕ
+  pub bits : ℕ
+  pub left : ℕ
+  pub free : Bool
+  pub fails : ℕ
+  pub block : ℕ
+
+-- A new device.
+abbrev pub fresh : Summary
+fresh = record { last = 0; bits = 0; left = 0; free = false; fails = 0; block = 0 }
+
+-- Odd counts are those of set tokens, even counts those of add tokens.
+abbrev pub is_odd : ℕ → Bool
+is_odd n = n % 2 == 1
+
+-- The greatest accepted count.
+abbrev pub top : Summary → List Entry → ℕ
+top start [] = start.last
+top start (Accept n v ∷ entries) = max n (top start entries)
+top start (_ ∷ entries) = top start entries
+
+-- How often a count was accepted.
+abbrev pub accepts : ℕ → List Entry → ℕ
+accepts count [] = 0
+accepts count (Accept n v ∷ entries) = (if n == count then 1 else 0) + accepts count entries
+accepts count (_ ∷ entries) = accepts count entries
+
+-- Whether a count was spent when the history began. A start remembers sixteen counts, bit i for the count i below
+-- its last one. Every older count is spent.
+abbrev pub spent_at_start : Summary → ℕ → Bool
+spent_at_start start count =
+    nat_le count start.last && (nat_le (count + 16) start.last || bit_at start.bits (start.last - count) == 1)
+
+-- Whether a count from 1 on is spent, so that its token gives nothing any more: it was accepted, or a set token of a
+-- greater count was accepted, which overtakes all counts below it, or it was spent when the history began.
+abbrev pub spent : Summary → List Entry → ℕ → Bool
+spent start [] count = spent_at_start start count
+spent start (Accept n v ∷ entries) count = (count == n || (is_odd n && nat_lt count n)) || spent start entries count
+spent start (_ ∷ entries) count = spent start entries count
+
+-- The same as a fact: the count was accepted, or an accepted odd count is above it, or it was spent at the start.
+abbrev pub IsSpent : Summary → List Entry → ℕ → Type 0
+IsSpent start entries count =
+    (1 ≤ accepts count entries) ⊎
+    (((n : ℕ) × (count < n) × (is_odd n ≡ true) × (1 ≤ accepts n entries)) ⊎ (spent_at_start start count ≡ true))
+
+-- The greatest count that a device takes next with a value: 64 above the greatest accepted one, and for a sync token,
+-- of value 999, 100 above it. So a customer may lose a number of tokens, and a guess has few counts to meet.
+abbrev pub reach : ℕ → Summary → List Entry → ℕ → ℕ
+reach greatest start entries value = min greatest (top start entries + (if value == 999 then 100 else 64))
+
+-- The values of a set token: 0 to 995 units of time, 998 for a device that is paid off, and 999 for a sync token.
+abbrev pub IsSetValue : ℕ → Type 0
+IsSetValue value = (value ≤ 995) ⊎ ((value ≡ 998) ⊎ (value ≡ 999))
+
+-- A device with this history takes the token of this count and value. A set token is taken above every accepted
+-- count. An add token, of 0 to 995 units, is taken in any order, unless it is spent, or sixteen counts or more below
+-- the greatest accepted one.
+abbrev pub Valid : ℕ → Summary → List Entry → ℕ → ℕ → Type 0
+Valid greatest start entries count value =
+    (1 ≤ count) × (count ≤ reach greatest start entries value) ×
+    (((is_odd count ≡ true) × (top start entries < count) × IsSetValue value) ⊎
+    ((is_odd count ≡ false) × (value ≤ 995) × (top start entries < count + 16) × (spent start entries count ≡ false)))
+
+-- The same as a test, for a search.
+abbrev pub is_valid : ℕ → Summary → List Entry → ℕ → ℕ → Bool
+is_valid greatest start entries count value =
+    nat_le 1 count && nat_le count (reach greatest start entries value) &&
+    (if is_odd count
+    then nat_lt (top start entries) count && (nat_le value 995 || (value == 998 || value == 999))
+    else nat_le value 995 && (nat_lt (top start entries) (count + 16) && not (spent start entries count)))

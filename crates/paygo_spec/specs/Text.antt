@@ -1,0 +1,38 @@
+-- The texts of the answers, each as it stands on what was written before it.
+use Rattle.std.specs.Prelude.{ℕ, Bool, List, [], ◌∷◌, ◌++◌, codes, if◌then◌else◌, Option, Some, None}
+use Rattle.std.specs.List.{flat_map}
+use Rattle.std.specs.Fmt.{decimal}
+use Rattle.paygo_spec.specs.declared.Reply.{Reply}
+use Rattle.paygo_spec.specs.declared.Reply.TheVariants.{Set, Added, Invalid, Worn, Down, Up, Ticked, Unmade, Made, Unbuilt}
+use Rattle.paygo_spec.specs.Machine.{Answer, Said, Told}
+
+-- A space and a number in decimal digits, without leading zeros.
+abbrev pub with_number : List ℕ → ℕ → List ℕ
+with_number front n = (front ++ codes " ") ++ decimal n
+
+-- A space and the seconds left, or the word `free`.
+abbrev pub with_left : List ℕ → ℕ → Bool → List ℕ
+with_left front left free = if free then front ++ codes " free" else with_number front left
+
+-- The text of a reply.
+abbrev pub text_of : Reply → List ℕ
+text_of (Set count value left) = with_number (with_number (with_number (codes "set") count) value) left
+text_of (Added count value left free) = with_left (with_number (with_number (codes "added") count) value) left free
+text_of (Invalid block) = with_number (codes "invalid") block
+text_of Worn = codes "worn"
+text_of Down = codes "down"
+text_of (Up count left free block) = with_number (with_left (with_number (codes "up") count) left free) block
+text_of (Ticked left free block) = with_number (with_left (codes "ticked") left free) block
+text_of Unmade = codes "unmade"
+text_of (Made number) = with_number (codes "made") number
+text_of Unbuilt = codes "unbuilt"
+
+-- The line of an answer, where there is one.
+abbrev pub line_of : Option Answer → List ℕ
+line_of None = []
+line_of (Some (Said text)) = text ++ 10 ∷ []
+line_of (Some (Told reply)) = text_of reply ++ 10 ∷ []
+
+-- All that is written for these answers.
+abbrev pub text : List (Option Answer) → List ℕ
+text answers = flat_map line_of answers

@@ -1,0 +1,2 @@
+pub mod Mixers
+pub mod Place
