@@ -1,0 +1,5 @@
+use Rattle.paygo_spec.proofs.Entries.{number_fits, read_back, number_back, may_has_number}
+use Rattle.history_laws.proofs.entries_have_numbers.Goals as goal
+
+pub returns : goal.returns
+returns c = record { fits = number_fits; read = read_back; back = number_back; lawful = may_has_number }

@@ -1,0 +1,4 @@
+pub mod Passed
+pub mod Answers
+pub mod Meaning
+pub mod Entering
