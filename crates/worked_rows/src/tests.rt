@@ -1,5 +1,6 @@
 // Runs of the program over objects in memory. Each device here is made with a key of 16 zeros, the starting code
 // 123456789 and whole days, and the counts of its chain are 7,000 apart.
+use bench_run::{Lines, LinesFault, Next};
 use paygo_cli::{Status, run};
 use paygo_outside::{Cut, MemFlash, MemSink, MemSource, Memory};
 use std::alloc::Global;
@@ -307,5 +308,30 @@ fn the_flash_keeps_what_happened(rt: HostRuntime) -> Result<(), Memory> {
         [first, railed, noted, other],
         [FIRST, RAILED, TOKEN, u64::MAX]
     );
+    Ok(())
+}
+
+#[test]
+fn lines_within_a_budget(rt: HostRuntime) -> Result<(), Memory> {
+    // of nine bytes, the last three of which are a line only once the source has told its end
+    for (budget, second) in [
+        (8, Err(LinesFault::Budget)),
+        (9, Err(LinesFault::Budget)),
+        (10, Ok(Next::Line { len: 3 })),
+    ] {
+        let mut source = MemSource::new(rt.alloc(), b"power\npow")?;
+        let mut lines = Lines::new(budget);
+        let mut line = [0u8; 4096];
+        assert_eq!(rt;
+            lines.next(&mut source, &mut line),
+            Ok(Next::Line { len: 5 })
+        );
+        assert_eq!(rt; &line[..5], b"power".as_slice());
+        assert_eq!(rt; lines.next(&mut source, &mut line), second);
+        if second.is_ok() {
+            assert_eq!(rt; &line[..3], b"pow".as_slice());
+            assert_eq!(rt; lines.next(&mut source, &mut line), Ok(Next::End));
+        }
+    }
     Ok(())
 }
