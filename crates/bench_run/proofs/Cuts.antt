@@ -51,6 +51,14 @@ pub none-append : (xs ys : List ℕ) → whole_lines xs ≡ [] → whole_lines y
 none-append xs ys a b =
     lines-append [] xs ys ∙ ap (λ ls. ls ++ lines_from (rest_from [] xs) ys) a ∙ none_any [] (rest_from [] xs) ys b
 
+front_nil : (lines others : List (List ℕ)) → lines ++ others ≡ [] → lines ≡ []
+front_nil [] others none = refl
+front_nil (line ∷ lines) others none = cc
+
+-- where two parts have no end of a line, the first has none
+pub none-front : (xs ys : List ℕ) → whole_lines (xs ++ ys) ≡ [] → whole_lines xs ≡ []
+none-front xs ys none = front_nil (whole_lines xs) (lines_from (rest_from [] xs) ys) (sym (lines-append [] xs ys) ∙ none)
+
 -- a line and its end, and what follows
 pub line-append : (line ys : List ℕ) → whole_lines line ≡ [] → whole_lines (line ++ 10 ∷ ys) ≡ line ∷ whole_lines ys
 line-append line ys none =

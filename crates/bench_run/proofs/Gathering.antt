@@ -11,7 +11,7 @@ use Rattle.bench_run.specs.declared.lines.LinesFault.{LinesFault}
 use Rattle.bench_run.specs.declared.lines.LinesFault.TheVariants as fault
 use Rattle.bench_run.specs.Reader.{LinesView, Came, IsLine, Answers, Hands}
 use Rattle.bench_run.specs.Gather.{handed_of, IsFront, IsPiece, Fills}
-use Rattle.bench_run.proofs.Cuts.{none-append}
+use Rattle.bench_run.proofs.Cuts.{none-append, none-front}
 
 -- What was gathered so far: the bytes of the line up to here, in whose front the buffer is, out of those held at first
 -- and those that came.
@@ -22,6 +22,7 @@ pub record Gathered (old self : LinesView) (was now : SourceView) (buffer : List
   pub bytes : old.held ++ came ≡ text ++ self.held
   pub unended : whole_lines text ≡ []
   pub front : IsFront buffer text size
+  pub needed : (now ≡ was) ⊎ (whole_lines old.held ≡ [])
   pub fits : length old.held ≤ old.taken
   pub small : old.budget < 2 ^ 64
 
@@ -94,6 +95,7 @@ module _ (old self : LinesView) (was now : SourceView) (buffer : List ℕ) (size
     bytes = so_far.bytes ∙ ap (λ l. so_far.text ++ l) piece.held ∙ sym (append-nil (so_far.text ++ piece.piece)) ∙ ap (λ l. (so_far.text ++ piece.piece) ++ l) (sym (piece.none refl));
     unended = none-append so_far.text piece.piece so_far.unended piece.unended;
     front = piece.front so_far.text so_far.front;
+    needed = so_far.needed;
     fits = so_far.fits;
     small = so_far.small;
   }
@@ -109,6 +111,7 @@ module _ (old self : LinesView) (was now : SourceView) (buffer : List ℕ) (size
         counts = came_same so_far.came old self new was now piece.budget piece.taken piece.ended so_far.counts;
         answer = handed_line size' (old.held ++ so_far.came) buffer' text new was now front (omega (arith, ap length bytes, length-append text (10 ∷ new.held), front.size_is))
             (none-append so_far.text piece.piece so_far.unended piece.unended, inl bytes) (le_or size' 4096 (cases_lt size' 4097));
+        needed = so_far.needed;
       }
 
   -- at the end of the input
@@ -128,7 +131,14 @@ module _ (old self : LinesView) (was now : SourceView) (buffer : List ℕ) (size
     came = so_far.came;
     counts = so_far.counts;
     answer = ended_line none end (cases_eq size 0);
+    needed = so_far.needed;
   }
+
+  -- all that was held is of the line, which has no end yet
+  none_held : self.held ≡ [] → whole_lines old.held ≡ []
+  none_held none =
+      let bytes : old.held ++ so_far.came ≡ so_far.text = so_far.bytes ∙ ap (λ l. so_far.text ++ l) none ∙ append-nil so_far.text in
+      none-front old.held so_far.came (ap whole_lines bytes ∙ so_far.unended)
 
   -- another block
   pub filled : (done : Unit {0}) (new : LinesView) (after : SourceView) → self.held ≡ [] → self.ended ≡ false → Fills (Ok done) self new now after → Gathered old new was after buffer size
@@ -140,6 +150,7 @@ module _ (old self : LinesView) (was now : SourceView) (buffer : List ℕ) (size
         bytes = sym (append_assoc old.held so_far.came fills.0) ∙ ap (λ l. l ++ fills.0) (so_far.bytes ∙ ap (λ l. so_far.text ++ l) none ∙ append-nil so_far.text) ∙ ap (λ l. so_far.text ++ l) (sym fills.2);
         unended = so_far.unended;
         front = so_far.front;
+        needed = inr (none_held none);
         fits = so_far.fits;
         small = so_far.small;
       }
@@ -155,6 +166,7 @@ module _ (old self : LinesView) (was now : SourceView) (buffer : List ℕ) (size
     came = so_far.came ++ [];
     counts = came_two so_far.came [] old self new was now after un so_far.counts fills.0;
     answer = (no_line none [] refl, fills.2, fills.1, omega (arith, fills.3, so_far.counts.later));
+    needed = inr (none_held none);
   }
   not_filled fault.Budget new after none un fills =
       subst (λ (v : SourceView). Hands (Err fault.Budget) buffer old new was v) (sym fills.0)
@@ -162,6 +174,7 @@ module _ (old self : LinesView) (was now : SourceView) (buffer : List ℕ) (size
         came = so_far.came;
         counts = so_far.counts;
         answer = (ap (λ l. whole_lines (old.held ++ l)) (sym (append-nil so_far.came)) ∙ no_line none [] refl, fills.2, un);
+        needed = so_far.needed;
       })
 
 -- before the first piece
@@ -186,6 +199,7 @@ begun old was buffer fits most small = record {
   bytes = append-nil old.held;
   unended = refl;
   front = record { size_is = refl; same = refl };
+  needed = inl refl;
   fits = fits;
   small = small;
 }

@@ -47,8 +47,10 @@ Answers (Ok End) bytes buffer new was now = (bytes ≡ []) × (new.held ≡ []) 
 Answers (Err fault.Read) bytes buffer new was now = (whole_lines bytes ≡ []) × (new.taken < new.budget) × (new.ended ≡ false) × Rose was.faults now.faults
 Answers (Err fault.Budget) bytes buffer new was now = (whole_lines bytes ≡ []) × (new.taken ≡ new.budget) × (new.ended ≡ false)
 
--- A call of `next`: some bytes came, and with those held before they make what it answers.
+-- A call of `next`: some bytes came, and with those held before they make what it answers. The source was read only
+-- where no whole line was held.
 pub record Hands (result : Result Next LinesFault) (buffer : List ℕ) (old new : LinesView) (was now : SourceView) : Type 0 where
   pub came : List ℕ
   pub counts : Came came old new was now
   pub answer : Answers result (old.held ++ came) buffer new was now
+  pub needed : (now ≡ was) ⊎ (whole_lines old.held ≡ [])
