@@ -1,6 +1,9 @@
 // The program `paygo`: its words are run over standard input, standard output and a file as the flash.
 #![tactic(auto)]
 
+ghost use Rattle.std.specs.Prelude.{◌≡◌};
+ghost use Rattle.paygo.specs.Exit.{exit_of};
+
 use paygo_cli::{Status, message, run};
 use paygo_outside::{FlashFile, StdinSource, StdoutSink};
 use std::fs::{File, OpenOptions};
@@ -37,7 +40,9 @@ fn reserve(rt: &HostRuntime) -> Option<File> {
 }
 
 // The exit status of the program.
-fn code(status: Status) -> u8 {
+fn code(status: Status) -> u8
+    ensures { result ≡ exit_of status }
+{
     match status {
         Status::Ok => 0,
         Status::Usage => 2,
