@@ -31,7 +31,7 @@ prepend-append : (a b : List ℕ) (known : Option (List ℕ)) → prepend_known 
 prepend-append a b None = refl
 prepend-append a b (Some xs) = ap Some (sym (append_assoc a b xs))
 
-raised-raised : (count a b : ℕ) → raised (raised count a) b ≡ raised count (a + b)
+pub raised-raised : (count a b : ℕ) → raised (raised count a) b ≡ raised count (a + b)
 raised-raised count a b = omega arith
 
 unended_two : (a b : ℕ) (was now after : Bool) → (a ≢ 0 → now ≡ false) → (b ≢ 0 → after ≡ false) → (b ≡ 0 → after ≡ now) → a + b ≢ 0 → (b ≡ 0) ⊎ (b ≢ 0) → after ≡ false

@@ -4,3 +4,4 @@ pub mod Held
 pub mod Gathering
 pub mod Answering
 pub mod Runs
+pub mod Pressing

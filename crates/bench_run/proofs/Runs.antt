@@ -1,5 +1,5 @@
 -- Runs, one after the other.
-use Rattle.std.proofs.Common.{◌≡◌, ℕ, ◌+◌, List, [], ◌∷◌, ◌++◌, length, take, Option, Some, refl, sym, ap, ◌∙◌, arith, append_assoc, length-append, subst}
+use Rattle.std.proofs.Common.{◌≡◌, ℕ, ◌+◌, List, [], ◌∷◌, ◌++◌, length, take, Option, Some, Result, Ok, Err, refl, sym, ap, ◌∙◌, arith, append_assoc, length-append, subst}
 use Rattle.std.proofs.Math.Seq.{take-append-add}
 use Rattle.paygo_spec.specs.Flash.{FlashView}
 use Rattle.paygo_spec.specs.Streams.{SinkView}
@@ -7,7 +7,8 @@ use Rattle.paygo_spec.specs.Machine.{Step, Answer, State, Run}
 use Rattle.paygo_spec.specs.Text.{line_of, text}
 use Rattle.paygo_spec.specs.Ran.{Answered, CutShort}
 use Rattle.device_core.specs.declared.device.Device.{Device}
-use Rattle.bench_run.specs.Bench.{Done}
+use Rattle.paygo_outside.specs.declared.sink.WriteFault.{WriteFault}
+use Rattle.bench_run.specs.Bench.{Done, Ends, Works}
 
 -- one run after another
 run-append : (next : List ℕ → ℕ → ℕ) (start mid end : State) (steps more : List Step) (answers others : List (Option Answer))
@@ -59,6 +60,36 @@ module _ (next : List ℕ → ℕ → ℕ) (steps more : List Step) (start : Sta
         where
           counts : length (text (done.answers ++ cut.earlier)) + cut.more ≡ length (text done.answers) + (length (text cut.earlier) + cut.more)
           counts = omega (arith, ap length (text-append done.answers cut.earlier), length-append (text done.answers) (text cut.earlier))
+
+-- steps that are done, and what became of more steps behind them
+ends_more : (next : List ℕ → ℕ → ℕ) (steps more : List Step) (result : Result (Unit {0}) WriteFault) (start : State) (before : List ℕ) (old new : Device) (was now : FlashView) (sink after : SinkView)
+    → (done : Done next steps start before old was sink) → Ends next more result done.now (before ++ text done.answers) new now after → Ends next (steps ++ more) result start before new now after
+ends_more next steps more (Ok _) start before old new was now sink after done later = done_more next steps more start before old new was now sink after done later
+ends_more next steps more (Err fault) start before old new was now sink after done stopped = record {
+  front = steps ++ stopped.front;
+  others = stopped.others;
+  split = ap (λ l. steps ++ l) stopped.split ∙ sym (append_assoc steps stopped.front stopped.others);
+  cut = cut_more next steps stopped.front start before old new was now sink after done stopped.cut;
+}
+
+-- the same, whatever they began with
+pub works_more : (next : List ℕ → ℕ → ℕ) (steps more : List Step) (result : Result (Unit {0}) WriteFault) (first old new : Device) (begun was now : FlashView) (empty sink after : SinkView)
+    → Works next steps (Ok tt) first begun empty old was sink → Works next more result old was sink new now after → Works next (steps ++ more) result first begun empty new now after
+works_more next steps more result first old new begun was now empty sink after done later start before agrees written =
+    let so_far = done start before agrees written in
+    ends_more next steps more result start before old new was now sink after so_far (later so_far.now (before ++ text so_far.answers) so_far.agrees so_far.written)
+
+-- steps in which the sink failed, before others
+pub works_front : (next : List ℕ → ℕ → ℕ) (steps others : List Step) (fault : WriteFault) (old new : Device) (was now : FlashView) (sink after : SinkView)
+    → Works next steps (Err fault) old was sink new now after → Works next (steps ++ others) (Err fault) old was sink new now after
+works_front next steps others fault old new was now sink after stops start before agrees written =
+    let stopped = stops start before agrees written in
+    record {
+      front = stopped.front;
+      others = stopped.others ++ others;
+      split = ap (λ l. l ++ others) stopped.split ∙ append_assoc stopped.front stopped.others others;
+      cut = stopped.cut;
+    }
 
 -- a device that has done these steps, as a whole run says it
 pub answered : (next : List ℕ → ℕ → ℕ) (steps : List Step) (start : State) (before : List ℕ) (device : Device) (flash : FlashView) (sink : SinkView)

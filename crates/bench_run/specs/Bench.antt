@@ -1,4 +1,5 @@
--- What a bench does with a line: the steps of the line are answered, and their answers written.
+-- What a bench does with steps: they are answered one after the other, and each answer is written before the next step is
+-- taken.
 use Rattle.std.specs.Prelude.{◌≡◌, ℕ, List, ◌++◌, take, Option, Some, Result, Ok, Err}
 use Rattle.std.specs.Io.KnownBytes.{append_known}
 use Rattle.paygo_spec.specs.Flash.{FlashView}
@@ -19,10 +20,18 @@ pub record Done (next : List ℕ → ℕ → ℕ) (steps : List Step) (start : S
   pub agrees : Agrees device flash now
   pub written : sink.written ≡ Some (before ++ text answers)
 
--- What became of these steps: they are done, or the sink failed at the last of them.
+-- The sink failed at an answer: the first of these steps were taken, up to the one whose answer it was, and the others
+-- weren't.
+pub record Stopped (next : List ℕ → ℕ → ℕ) (steps : List Step) (start : State) (before : List ℕ) (flash : FlashView) (sink : SinkView) : Type 0 where
+  pub front : List Step
+  pub others : List Step
+  pub split : steps ≡ front ++ others
+  pub cut : CutShort next front start before flash sink
+
+-- What became of these steps: they are done, or the sink failed at the answer to one of them.
 abbrev pub Ends : (List ℕ → ℕ → ℕ) → List Step → Result (Unit {0}) WriteFault → State → List ℕ → Device → FlashView → SinkView → Type 0
 Ends next steps (Ok done) start before device flash sink = Done next steps start before device flash sink
-Ends next steps (Err fault) start before device flash sink = CutShort next steps start before flash sink
+Ends next steps (Err fault) start before device flash sink = Stopped next steps start before flash sink
 
 -- Whatever device and flash stand for, and whatever was written before, that became of these steps.
 abbrev pub Works : (List ℕ → ℕ → ℕ) → List Step → Result (Unit {0}) WriteFault → Device → FlashView → SinkView → Device → FlashView → SinkView → Type 0

@@ -1,13 +1,21 @@
 // What the lines of a device mean.
-ghost use Rattle.std.specs.Prelude.{◌≡◌, true, IfSome};
-ghost use Rattle.paygo_spec.specs.Words.{config_in, divider_in, divides_day, entry_in, event_in, keys_in, make_in, power_in, tick_in};
+ghost use Rattle.std.specs.Prelude.{◌≡◌, true, codes, IfSome};
+ghost use Rattle.std.specs.Option.{option_map};
+ghost use Rattle.paygo_spec.specs.Words.{are_key_text, config_in, divider_in, divides_day, events_in, form_in, is_key_text, keys_in, make_in, presses, tick_in, word_in};
 ghost use Rattle.paygo_spec.specs.Machine.{IsConfig, IsEvent, trimmed as line_trimmed};
+ghost use Rattle.bench_run.specs.Asked.{events_of, IsAsked};
 
 use line_text::{after_prefix, first_word, key, number};
-use paygo_spec::{Config, Event};
+use paygo_spec::{Config, DAY, Event, Form};
 
-/// How many seconds a day has.
-const DAY: u64 = 86_400;
+// What a line asks for, whose events are its meaning.
+#[derive(Clone, Copy)]
+pub(crate) enum Asked<'a> {
+    // This event.
+    One(Event),
+    // A key of the pad for each byte of this text but its spaces.
+    Keys(&'a [u8]),
+}
 
 // The line without one byte 13 at its end.
 pub(crate) fn trimmed(line: &[u8]) -> &[u8]
@@ -23,7 +31,7 @@ pub(crate) fn trimmed(line: &[u8]) -> &[u8]
 fn is_divider(n: u64) -> bool
     ensures { result ≡ divides_day n }
 {
-    n > 0 && n < 256 && DAY % n == 0
+    n > 0 && n < 256 && u64::from(DAY) % n == 0
 }
 
 // The number of units in a day that a word says.
@@ -35,7 +43,20 @@ fn divider(word: &[u8]) -> Option<u8>
     if is_divider(n) { Some(n as u8) } else { None }
 }
 
-// `KEY START DIVIDER 9`
+// The form of tokens that a word says: `9` or `15`.
+fn form(word: &[u8]) -> Option<Form>
+    ensures { result ≡ form_in word.now }
+{
+    if word == b"9".as_slice() {
+        Some(Form::Nine)
+    } else if word == b"15".as_slice() {
+        Some(Form::Fifteen)
+    } else {
+        None
+    }
+}
+
+// `KEY START DIVIDER FORM`
 fn read_config(text: &[u8]) -> Option<Config>
     ensures value { result ≡ config_in text.now }
     ensures range { IfSome result IsConfig }
@@ -44,22 +65,20 @@ fn read_config(text: &[u8]) -> Option<Config>
     let key = key(word)?;
     let (word, rest) = first_word(rest)?;
     let start = number(word, 9)?;
-    let (word, form) = first_word(rest)?;
+    let (word, last) = first_word(rest)?;
     let divider = divider(word)?;
-    if form == b"9".as_slice() {
-        Some(Config {
-            key,
-            start: start as u32,
-            divider,
-        })
-    } else {
-        None
-    }
+    let form = form(last)?;
+    Some(Config {
+        key,
+        start: start as u32,
+        divider,
+        form,
+    })
 }
 
 // `power`
 fn read_power(line: &[u8]) -> Option<Event>
-    ensures { result ≡ power_in line.now }
+    ensures { result ≡ word_in (codes "power") Event.Power line.now }
 {
     if line == b"power".as_slice() {
         Some(Event::Power)
@@ -68,7 +87,7 @@ fn read_power(line: &[u8]) -> Option<Event>
     }
 }
 
-// `make KEY START DIVIDER 9`
+// `make KEY START DIVIDER FORM`
 fn read_make(line: &[u8]) -> Option<Event>
     ensures value { result ≡ make_in line.now }
     ensures range { IfSome result IsEvent }
@@ -79,25 +98,36 @@ fn read_make(line: &[u8]) -> Option<Event>
     }
 }
 
-// Nine digits and then `#`.
-fn read_entry(text: &[u8]) -> Option<Event>
-    ensures value { result ≡ entry_in text.now }
-    ensures range { IfSome result IsEvent }
+// Whether a byte may stand in the text of keys: a key of the pad, or a space, which is passed over.
+fn is_key(c: u8) -> bool
+    ensures { result ≡ is_key_text c }
 {
-    let digits = text.first_chunk::<9>()?;
-    if &text[9..] != b"#".as_slice() {
-        return None;
-    }
-    number(digits, 9)?;
-    Some(Event::Enter { digits: *digits })
+    c == b' ' || (b'0' <= c && c <= b'9') || c == b'*' || c == b'#'
 }
 
-// `keys DIGITS#`
-fn read_keys(line: &[u8]) -> Option<Event>
-    ensures value { result ≡ keys_in line.now }
-    ensures range { IfSome result IsEvent }
+// Whether each byte may stand in the text of keys.
+fn are_keys(text: &[u8]) -> bool
+    ensures { result ≡ are_key_text text.now }
 {
-    read_entry(after_prefix(line, b"keys ")?)
+    for c in text {
+        if !is_key(*c) {
+            return false;
+        }
+    }
+    true
+}
+
+// `keys TEXT`, and of it the text, which isn't empty.
+fn read_keys(line: &[u8]) -> Option<&[u8]>
+    ensures value { option_map (λ text. presses text.now) result ≡ keys_in line.now }
+    ensures range { IfSome result (λ text. are_key_text text.now ≡ true) }
+{
+    let text = after_prefix(line, b"keys ")?;
+    if !text.is_empty() && are_keys(text) {
+        Some(text)
+    } else {
+        None
+    }
 }
 
 // `tick S`
@@ -109,19 +139,36 @@ fn read_tick(line: &[u8]) -> Option<Event>
     Some(Event::Tick(seconds as u32))
 }
 
-// The event that a line asks for, where it has one of the four forms.
-pub(crate) fn event_of(line: &[u8]) -> Option<Event>
-    ensures value { result ≡ event_in line.now }
-    ensures range { IfSome result IsEvent }
+// `show`
+fn read_show(line: &[u8]) -> Option<Event>
+    ensures { result ≡ word_in (codes "show") Event.Show line.now }
+{
+    if line == b"show".as_slice() {
+        Some(Event::Show)
+    } else {
+        None
+    }
+}
+
+// What a line asks for, where it has one of the five forms.
+pub(crate) fn asked_by(line: &[u8]) -> Option<Asked<'_>>
+    ensures value { option_map events_of result ≡ events_in line.now }
+    ensures range { IfSome result IsAsked }
 {
     if let Some(event) = read_power(line) {
-        return Some(event);
+        return Some(Asked::One(event));
     }
     if let Some(event) = read_make(line) {
-        return Some(event);
+        return Some(Asked::One(event));
     }
-    if let Some(event) = read_keys(line) {
-        return Some(event);
+    if let Some(text) = read_keys(line) {
+        return Some(Asked::Keys(text));
     }
-    read_tick(line)
+    if let Some(event) = read_tick(line) {
+        return Some(Asked::One(event));
+    }
+    match read_show(line) {
+        Some(event) => Some(Asked::One(event)),
+        None => None,
+    }
 }

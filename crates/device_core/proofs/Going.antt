@@ -1,111 +1,183 @@
--- A device that goes on at an event: it stays as it is, or takes one entry more.
-use Rattle.std.proofs.Common.{◌≡◌, ◌≢◌, inl, inr, ℕ, ◌+◌, ◌≤◌, ◌<◌, Bool, true, false, List, [], ◌∷◌, length, Option, Some, None, IfSome, IsSome, refl, sym, ap, ◌∙◌, arith, subst, if◌then◌else◌}
-use Rattle.std.specs.Prelude.{slice_index, slice_set}
-use Rattle.std.specs.Option.{option_map}
-use Rattle.std.proofs.lemmas.List.{get_or-set_same, get_or-set_other}
-use Rattle.paygo_spec.specs.declared.Config.{Config}
+-- A device that was made goes on at an event: it stays as it is, or takes one entry more, or the flash fails.
+use Rattle.std.proofs.Common.{◌≡◌, ◌≢◌, ◌⊎◌, inl, inr, ℕ, ◌<◌, Bool, true, false, ◌==◌, List, [], ◌∷◌, if◌then◌else◌, Option, Some, None, IfSome, refl, sym, ap, ◌∙◌, arith, subst}
+use Rattle.std.proofs.lemmas.Bool.Decides.{nat_tests}
+use Rattle.paygo_spec.specs.declared.TheConstants.{LAST}
 use Rattle.paygo_spec.specs.declared.Entry.{Entry}
-use Rattle.paygo_spec.specs.declared.Entry.TheVariants.{Accept}
-use Rattle.paygo_spec.specs.declared.Event.{Event}
-use Rattle.paygo_spec.specs.declared.Event.TheVariants.{Power, Make, Enter, Tick}
+use Rattle.paygo_spec.specs.declared.Entry.TheVariants.{Accept, Bad, Elapsed}
 use Rattle.paygo_spec.specs.declared.Reply.{Reply}
 use Rattle.paygo_spec.specs.declared.Reply.TheVariants as reply_is
-use Rattle.paygo_spec.specs.Faults.{Rose}
-use Rattle.paygo_spec.specs.Flash.{FlashView, AreWords, Becomes}
+use Rattle.paygo_spec.specs.Calls.{DueAfter}
+use Rattle.paygo_spec.specs.Clock.{ClockView, clock_at_start}
+use Rattle.paygo_spec.specs.Flash.{FlashView, Becomes}
 use Rattle.paygo_spec.specs.History.{is_odd}
-use Rattle.paygo_spec.specs.Clock.{ClockView}
-use Rattle.paygo_spec.specs.EntryNumber.{number_of}
-use Rattle.paygo_spec.specs.Layout.{IsLaidOut, HasEntries}
-use Rattle.paygo_spec.specs.Rail.{railed}
-use Rattle.paygo_spec.specs.Machine.{Stored, Journal, Stands, Changes, clock_at, reply_of, most_entries}
-use Rattle.device_core.specs.declared.running.Running.{Running}
-use Rattle.device_core.specs.Memory.{IsUp, Outcome}
-use Rattle.device_core.proofs.Powering.{stands_some}
+use Rattle.paygo_spec.specs.Lawful.{MayFollow, follows}
+use Rattle.paygo_spec.specs.Layout.{Position, room, further, calls_of_entry}
+use Rattle.paygo_spec.specs.Recovery.{JournalView, recover}
+use Rattle.paygo_spec.specs.Recovery as recovered
+use Rattle.paygo_spec.specs.Snapshot.{snapshot}
+use Rattle.paygo_spec.specs.Machine as machine
+use Rattle.paygo_spec.specs.Machine.{History, Stored, Journal, Effect, StandsAs, Stands, unit_for, gone_on, clock_at, reply_to_set, reply_to_entry, MayAdd, Meets, calls_of_effect}
+use Rattle.paygo_spec.proofs.Snapshots.{snapshot_may, snapshot_more}
+use Rattle.paygo_spec.proofs.Entries.{follows_is}
+use Rattle.journal_laws.specs.Journal.{with_entry, IsCut}
+use Rattle.device_core.specs.declared.decision.Decision.{Decision}
+use Rattle.device_core.specs.declared.decision.Decision.TheVariants.{Answers, Adds}
+use Rattle.device_core.specs.Decided.{MayDo}
+use Rattle.device_core.specs.Memory.{Costs}
+use Rattle.device_core.specs.Changes.{Stays, Added, CutOff, AddsAs, CarriedOut}
+use Rattle.device_core.proofs.Stands.{as_stands, becomes_stands, journal_of, IsLawful}
+use Rattle.device_core.proofs.Effects.{GoesOn, IsEffect}
 
--- a word at a place behind all entries changes none of them
-same_entries : (words : List ℕ) (entries : List Entry) (place word : ℕ) → 12 + length entries ≤ place → HasEntries words entries → HasEntries (slice_set words place word) entries
-same_entries words [] place word behind has = tt
-same_entries words (e ∷ entries) place word behind has = (
-  get_or-set_other words place (12 + length entries) word 0 (λ z. absurd (omega (arith, behind, z))) ∙ has.0,
-  same_entries words entries place word (omega (arith, behind)) has.1,
-)
+-- no call is made
+pub due_none : (due : Option (Option ℕ)) → DueAfter 0 due due
+due_none None = refl
+due_none (Some None) = refl
+due_none (Some (Some n)) = (omega arith, ap (λ (m : ℕ). Some (Some m)) (omega arith))
 
--- with one more entry's word at the next place, the flash has one more entry
-laid_more : (config : Config) (entries : List Entry) (entry : Entry) (words : List ℕ) (place : ℕ) → length words ≡ 1024 → place ≡ 12 + length entries → place < 512
-    → IsLaidOut config entries words → IsLaidOut config (entry ∷ entries) (slice_set words place (railed (number_of entry)))
-laid_more config entries entry words place size is below laid =
-    let word = railed (number_of entry) in
-    record {
-      fits = omega (arith, is, below);
-      head = λ p head. get_or-set_other words place p word 0 (λ z. absurd (omega (arith, is, head, z))) ∙ laid.head p head;
-      written = (
-        ap (slice_index (slice_set words place word)) (sym is) ∙ get_or-set_same words place word 0 (omega (arith, size, below)),
-        same_entries words entries place word (omega (arith, is)) laid.written,
-      );
-      erased = λ p from less. get_or-set_other words place p word 0 (λ z. absurd (omega (arith, is, from, z))) ∙ laid.erased p (omega (arith, from)) less;
-    }
+-- the reply to an entry says neither that the flash failed nor that there is no room
+set_fair : (count value : ℕ) (clock : ClockView) (small free : Bool)
+    → (let reply = if small then reply_is.Set count value clock.left else if free then reply_is.Free count else reply_is.Synced count in (reply ≢ reply_is.Down) × (reply ≢ reply_is.Worn))
+set_fair count value clock true free = (λ e. cc, λ e. cc)
+set_fair count value clock false true = (λ e. cc, λ e. cc)
+set_fair count value clock false false = (λ e. cc, λ e. cc)
 
-pub laid_told : (config : Config) (entries : List Entry) (entry : Entry) (place : ℕ) (old new : Option (List ℕ)) → IfSome old AreWords → place ≡ 12 + length entries → place < 512
-    → Stands old (Journal config entries) → new ≡ option_map (λ words. slice_set words place (railed (number_of entry))) old → Stands new (Journal config (entry ∷ entries))
-laid_told config entries entry place None new are is below stands e = absurd stands
-laid_told config entries entry place (Some words) None are is below stands e = cc
-laid_told config entries entry place (Some words) (Some new) are is below stands e =
-    let same : new ≡ slice_set words place (railed (number_of entry)) = cc in
-    subst (IsLaidOut config (entry ∷ entries)) (sym same) (laid_more config entries entry words place are.count is below stands)
+accept_fair : (count value : ℕ) (clock : ClockView) (odd : Bool)
+    → (let reply = if odd then reply_to_set count value clock else reply_is.Added count value clock.left clock.free in (reply ≢ reply_is.Down) × (reply ≢ reply_is.Worn))
+accept_fair count value clock true = set_fair count value clock _ _
+accept_fair count value clock false = (λ e. cc, λ e. cc)
 
--- a torn word leaves words that stand for something
-torn_told : (change : List ℕ → List ℕ → Type 0) (old new : Option (List ℕ)) (stored : Stored) → Stands old stored → Becomes change old new → (after : Stored) × Stands new after
-torn_told change None new stored stands torn = absurd stands
-torn_told change (Some old) None stored stands torn = absurd torn
-torn_told change (Some old) (Some new) stored stands torn = stands_some new
+fair : (entry : Entry) (clock : ClockView) → (reply_to_entry entry clock ≢ reply_is.Down) × (reply_to_entry entry clock ≢ reply_is.Worn)
+fair (Accept count value) clock = accept_fair count value clock (is_odd count)
+fair Bad clock = (λ e. cc, λ e. cc)
+fair (Elapsed seconds) clock = (λ e. cc, λ e. cc)
 
--- no reply to an entry or to time is `down` or `worn`
-token_fair : (count value : ℕ) (clock : ClockView) (odd : Bool) → (let reply = if odd then reply_is.Set count value clock.left else reply_is.Added count value clock.left clock.free in (reply ≢ reply_is.Down) × (reply ≢ reply_is.Worn))
-token_fair count value clock true = (λ e. cc, λ e. cc)
-token_fair count value clock false = (λ e. cc, λ e. cc)
+-- the three ways of an entry that is to be added
+abbrev pub OneOf : Entry → JournalView → FlashView → Reply → JournalView → FlashView → Type 0
+OneOf entry old was reply new now =
+    ((reply ≡ reply_is.Worn) × (room old.at ≡ 0) × Stays old new was now)
+    ⊎ (((reply ≡ reply_is.Down) × CutOff entry old was now) ⊎ ((reply ≢ reply_is.Worn) × (reply ≢ reply_is.Down) × Added entry old was reply new now))
 
-fair : (clock : ClockView) (event : Event) (entry : Option Entry) → (reply_of clock event entry ≢ reply_is.Down) × (reply_of clock event entry ≢ reply_is.Worn)
-fair clock (Tick seconds) entry = (λ e. cc, λ e. cc)
-fair clock Power (Some (Accept n v)) = token_fair n v clock (is_odd n)
-fair clock (Make config) (Some (Accept n v)) = token_fair n v clock (is_odd n)
-fair clock (Enter digits) (Some (Accept n v)) = token_fair n v clock (is_odd n)
-fair clock _ _ = (λ e. cc, λ e. cc)
+pub one_of : (entry : Entry) (old : JournalView) (was : FlashView) (reply : Reply) (new : JournalView) (now : FlashView) → AddsAs entry old was reply new now → OneOf entry old was reply new now
+one_of entry old was reply_is.Worn new now adds = inl (refl, adds.0, adds.1)
+one_of entry old was reply_is.Down new now adds = inr (inl (refl, adds))
+one_of entry old was _ new now adds = inr (inr (λ e. cc, λ e. cc, adds))
 
--- an entry that was programmed, whatever the reply
-changed : (config : Config) (entries : List Entry) (event : Event) (entry : Entry) (reply : Reply) → length entries < most_entries → reply ≢ reply_is.Worn
-    → reply ≡ reply_of (clock_at config (entry ∷ entries)) event (Some entry) → Changes config entries event (Some entry) reply (Journal config (entry ∷ entries))
-changed config entries event entry reply_is.Worn room other is = absurd (other refl)
-changed config entries event entry _ room other is = (room, is, refl)
+-- an entry is added with this reply
+may_add : (history : History) (entry : Entry) (reply : Reply) → reply ≢ reply_is.Worn → reply ≢ reply_is.Down → 0 < room history.at
+    → reply ≡ reply_to_entry entry (clock_at history (entry ∷ history.entries)) → MayAdd history entry (Some reply) (Journal (gone_on history (entry ∷ history.entries) (further history.at)))
+may_add history entry reply_is.Worn full down some is = absurd (full refl)
+may_add history entry reply_is.Down full down some is = absurd (down refl)
+may_add history entry _ full down some is = (some, ap Some is, refl)
 
--- Where a device that is up went to at an event that makes this entry or none.
-pub data Went (config : Config) (entries : List Entry) (event : Event) (made : Option Entry) (was : FlashView) (reply : Reply) (new : Running) (now : FlashView) : Type 0 where
-  Fell : reply ≡ reply_is.Down → IsSome made → length entries < most_entries → now.up ≡ false → was.faults ≤ now.faults → Rose was.faults now.faults
-      → (after : Stored) → Stands now.words after → Went config entries event made was reply new now
-  Moved : reply ≢ reply_is.Down → (after : List Entry) → Changes config entries event made reply (Journal config after) → IsUp new after → new.config ≡ config
-      → now.up ≡ true → was.faults ≤ now.faults → Stands now.words (Journal config after) → Went config entries event made was reply new now
+-- the calls of an event whose reply isn't that the flash failed
+pub costs_after : (calls : ℕ) (reply : Option Reply) (was now : FlashView) → reply ≢ Some reply_is.Down → DueAfter calls was.due now.due → Costs (Some calls) reply was now
+costs_after calls None was now other due = due
+costs_after calls (Some reply_is.Down) was now other due = absurd (other refl)
+costs_after calls (Some _) was now other due = due
 
-module _ (old : Running) (entries : List Entry) (event : Event) (was : FlashView) (reply : Reply) (new : Running) (now : FlashView)
-    (up : IsUp old entries) (on : was.up ≡ true) (are : IfSome was.words AreWords) (stands : Stands was.words (Journal old.config entries)) where
-  still : (made : Option Entry) → reply ≢ reply_is.Down → Changes old.config entries event made reply (Journal old.config entries) → new ≡ old → now ≡ was → Went old.config entries event made was reply new now
-  still made other changes same kept =
-      Moved other entries changes (subst (λ (r : Running). IsUp r entries) (sym same) up) (ap (λ (r : Running). r.config) same)
-      (ap (λ (v : FlashView). v.up) kept ∙ on) (let later : was.faults ≡ now.faults = ap (λ (v : FlashView). v.faults) (sym kept) in omega (arith, later))
-      (subst (λ (v : FlashView). Stands v.words (Journal old.config entries)) (sym kept) stands)
+pub costs_none : (reply : Option Reply) (was now : FlashView) → reply ≢ Some reply_is.Down → now ≡ was → Costs (Some 0) reply was now
+costs_none reply was now other kept = costs_after 0 reply was now other (subst (λ (v : FlashView). DueAfter 0 was.due v.due) (sym kept) (due_none was.due))
 
-  pub went : (made : Option Entry) → Outcome made event old was reply new now → Went old.config entries event made was reply new now
-  went None (is, same, kept) =
-      let said : reply ≡ reply_of (clock_at old.config entries) event None = is ∙ ap (λ (c : ClockView). reply_of c event None) up.clock in
-      still None (λ e. (fair (clock_at old.config entries) event None).0 (sym said ∙ e)) (said, refl) same kept
-  went (Some entry) (inl (worn, (full, same, kept))) =
-      still (Some entry) (λ e. let bad : reply_is.Worn ≡ reply_is.Down = sym worn ∙ e in cc)
-      (subst (λ (r : Reply). Changes old.config entries event (Some entry) r (Journal old.config entries)) (sym worn) (omega (arith, full, up.place), refl)) same kept
-  went (Some entry) (inr (inl (down, (room, fails)))) =
-      let after = torn_told _ was.words now.words (Journal old.config entries) stands fails.words in
-      Fell down refl (omega (arith, room, up.place)) fails.up fails.later fails.rose after.0 after.1
-  went (Some entry) (inr (inr (is, (room, passes, added)))) =
-      let more = added.more entries up in
-      let said : reply ≡ reply_of (clock_at old.config (entry ∷ entries)) event (Some entry) =
-      is ∙ ap (λ (c : ClockView). reply_of c event (Some entry)) (more.clock ∙ ap (λ (c : Config). clock_at c (entry ∷ entries)) added.config) in
-      Moved (λ e. (fair (clock_at old.config (entry ∷ entries)) event (Some entry)).0 (sym said ∙ e)) (entry ∷ entries)
-      (changed old.config entries event entry reply (omega (arith, room, up.place)) (λ e. (fair (clock_at old.config (entry ∷ entries)) event (Some entry)).1 (sym said ∙ e)) said)
-      more added.config passes.up passes.later (laid_told old.config entries entry old.place was.words now.words are up.place room stands passes.words)
+-- The words that stood for the history stand for this now.
+abbrev pub StandOn : History → FlashView → FlashView → Stored → Type 0
+StandOn history was now after = Stands was.words (Journal history) → Stands now.words after
+
+-- Where a device that was made went to at an event with this effect.
+pub data Went (history : History) (effect : Effect) (was : FlashView) (reply : Option Reply) (new : JournalView) (now : FlashView) : Type 0 where
+  Fell : reply ≡ Some reply_is.Down → (after : Stored) → Meets history effect (Some reply_is.Down) after → StandOn history was now after
+      → Costs (Some (calls_of_effect history.at effect)) (Some reply_is.Down) was now → Went history effect was reply new now
+  Moved : reply ≢ Some reply_is.Down → (after : Stored) → Meets history effect reply after → StandsAs (recovered.Made new) after → StandOn history was now after
+      → Costs (Some (calls_of_effect history.at effect)) reply was now → Went history effect was reply new now
+
+module _ (history : History) (bank : ℕ) (lawful : IsLawful history) where
+  abbrev journal : JournalView
+  journal = journal_of history bank
+
+  abbrev with_it : Entry → List Entry
+  with_it entry = entry ∷ history.entries
+
+  -- an entry that may follow the summary may follow the history
+  may_follow : (entry : Entry) → follows LAST journal.summary entry ≡ true → MayFollow LAST (unit_for history) history.start history.entries entry
+  may_follow entry may =
+      (snapshot_may LAST (unit_for history) history.start history.entries entry).1 ((follows_is LAST (unit_for history) journal.summary entry).0 may).0
+
+  -- a journal at this position with the entry, or without it
+  with_stands : (entry : Entry) (bank : ℕ) (at : Position) → follows LAST journal.summary entry ≡ true
+      → StandsAs (recovered.Made (record { bank = bank; at = at; config = history.config; summary = snapshot (unit_for history) journal.summary (entry ∷ []) })) (Journal (gone_on history (with_it entry) at))
+  with_stands entry bank at may = (refl, refl, sym (snapshot_more (unit_for history) history.start history.entries entry), (lawful, may_follow entry may))
+
+  with_is : (entry : Entry) (new : JournalView) → new ≡ with_entry entry journal → follows LAST journal.summary entry ≡ true
+      → StandsAs (recovered.Made new) (Journal (gone_on history (with_it entry) (further history.at)))
+  with_is entry new is may =
+      subst (λ (j : JournalView). StandsAs (recovered.Made j) (Journal (gone_on history (with_it entry) (further history.at)))) (sym is)
+      (with_stands entry (with_entry entry journal).bank (further history.at) may)
+
+  -- the clock after it is that of the history with it
+  clock_with_it : (entry : Entry) (new : JournalView) → new ≡ with_entry entry journal → clock_at_start new.summary ≡ clock_at history (with_it entry)
+  clock_with_it entry new is =
+      ap (λ (j : JournalView). clock_at_start j.summary) is
+      ∙ ap clock_at_start (sym (snapshot_more (unit_for history) history.start history.entries entry))
+
+  -- what a cut left stands for the history with the entry or without it
+  cut_stands : (entry : Entry) (counted : Bool) (now : JournalView) → follows LAST journal.summary entry ≡ true → now.config ≡ history.config
+      → now.summary ≡ (if counted then snapshot (unit_for history) journal.summary (entry ∷ []) else journal.summary)
+      → StandsAs (recovered.Made now) (Journal (gone_on history (if counted then with_it entry else history.entries) now.at))
+  cut_stands entry true now may config summary = (config, refl, summary ∙ sym (snapshot_more (unit_for history) history.start history.entries entry), (lawful, may_follow entry may))
+  cut_stands entry false now may config summary = (config, refl, summary, lawful)
+
+  -- where the words aren't told, it is taken not to count
+  cut_told : (entry : Entry) (old new : Option (List ℕ)) → follows LAST journal.summary entry ≡ true → 0 < room history.at → Becomes (λ before words. IsCut entry journal words) old new
+      → (after : Stored) × MayAdd history entry (Some reply_is.Down) after × (Stands old (Journal history) → Stands new after)
+  cut_told entry None None may some cut = (Journal (gone_on history history.entries history.at), (some, (false, history.at, inl refl, refl)), λ stands. absurd stands)
+  cut_told entry None (Some new) may some cut = absurd cut
+  cut_told entry (Some old) None may some cut = absurd cut
+  cut_told entry (Some old) (Some new) may some cut = (
+    Journal (gone_on history (if cut.counted then with_it entry else history.entries) cut.now.at),
+    (some, (cut.counted, cut.now.at, cut.position, refl)),
+    λ stands.
+        subst (λ (r : recovered.Recovered). StandsAs r (Journal (gone_on history (if cut.counted then with_it entry else history.entries) cut.now.at))) (sym cut.recovered)
+        (cut_stands entry cut.counted cut.now may cut.config cut.summary),
+  )
+
+  no_calls : room history.at ≡ 0 → calls_of_entry history.at ≡ 0
+  no_calls none = let test : (room history.at == 0) ≡ true = grind (arith, nat_tests) in rw test refl
+
+  module _ (was now : FlashView) (new : JournalView) (backs : IfSome was.words (λ words. recover words ≡ recovered.Made journal)) where
+    -- nothing changed
+    stayed : (effect : Effect) (reply : Option Reply) (entries : List Entry) → reply ≢ Some reply_is.Down → Meets history effect reply (Journal (gone_on history entries history.at))
+        → calls_of_effect history.at effect ≡ 0 → GoesOn journal history entries → Stays journal new was now → Went history effect was reply new now
+    stayed effect reply entries other meets none goes stays =
+        let after : Stored = Journal (gone_on history entries history.at) in
+        Moved other after meets (subst (λ (j : JournalView). StandsAs (recovered.Made j) after) (sym stays.same) goes)
+        (λ stands. subst (λ (v : FlashView). Stands v.words after) (sym stays.kept) (as_stands was.words (recovered.Made journal) (Journal history) after backs stands goes))
+        (subst (λ (n : ℕ). Costs (Some n) reply was now) (sym none) (costs_none reply was now other stays.kept))
+
+    added : (entry : Entry) (reply : Reply) → follows LAST journal.summary entry ≡ true → OneOf entry journal was reply new now → Went history (machine.Adds entry) was (Some reply) new now
+    added entry reply may (inl (worn, none, stays)) =
+        subst (λ (r : Reply). Went history (machine.Adds entry) was (Some r) new now) (sym worn)
+        (stayed (machine.Adds entry) (Some reply_is.Worn) history.entries (λ e. cc) (none, refl) (no_calls none) (refl, refl, refl, lawful) stays)
+    added entry reply may (inr (inl (down, cut))) =
+        let some : 0 < room history.at = (let z = cut.some_room in omega arith) in
+        let told = cut_told entry was.words now.words may some cut.words in
+        Fell (ap Some down) told.0 told.1 told.2 cut.calls.due
+    added entry reply may (inr (inr (full, down, ok))) =
+        let other : Some reply ≢ Some reply_is.Down = (λ e. down (let same : reply ≡ reply_is.Down = cc in same)) in
+        let some : 0 < room history.at = (let z = ok.some_room in omega arith) in
+        let after : Stored = Journal (gone_on history (with_it entry) (further history.at)) in
+        let now_stands : StandsAs (recovered.Made new) after = with_is entry new ok.journal may in
+        Moved other after (may_add history entry reply full down some (ok.reply_is ∙ ap (reply_to_entry entry) (clock_with_it entry new ok.journal))) now_stands
+        (λ stands. becomes_stands was.words now.words (recovered.Made new) (Journal history) after ok.words stands now_stands)
+        (costs_after (calls_of_entry history.at) (Some reply) was now other ok.calls.due)
+
+    pub went : (decision : Option Decision) (effect : Effect) (reply : Option Reply) → IfSome decision (MayDo journal) → IsEffect journal history decision effect
+        → CarriedOut decision journal was reply new now → Went history effect was reply new now
+    went None (machine.Answers answer entries) reply may (is, goes) (none, stays) =
+        stayed (machine.Answers answer entries) reply entries (λ e. (let bad : None ≡ Some reply_is.Down = sym none ∙ e in cc)) (none ∙ sym is, refl) refl goes stays
+    went (Some (Answers said)) (machine.Answers answer entries) (Some reply) may (is, goes) (same, stays) =
+        stayed (machine.Answers answer entries) (Some reply) entries (λ e. may (let down : reply ≡ reply_is.Down = cc in sym same ∙ down)) (ap Some same ∙ sym is, refl) refl goes stays
+    went (Some (Adds entry)) (machine.Adds other) (Some reply) may is adds =
+        subst (λ (e : Entry). Went history (machine.Adds e) was (Some reply) new now) (sym is) (added entry reply may (one_of entry journal was reply new now adds))
+    went None (machine.Adds entry) reply may is did = absurd is
+    went (Some (Answers said)) (machine.Adds entry) reply may is did = absurd is
+    went (Some (Adds entry)) (machine.Answers answer entries) reply may is did = absurd is
+    went (Some decision) effect None may is did = absurd did

@@ -1,4 +1,11 @@
+pub mod Deciding
 pub mod Beginning
-pub mod Powering
+pub mod Stands
+pub mod Effects
 pub mod Going
-pub mod Steps
+pub mod Handling
+pub mod Recalling
+pub mod MadeSteps
+pub mod UnmadeSteps
+pub mod MakeSteps
+pub mod PowerSteps

@@ -1,2 +1,4 @@
-pub mod Fit
 pub mod Memory
+pub mod Decided
+pub mod Changes
+pub mod Texts

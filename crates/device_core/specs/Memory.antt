@@ -1,88 +1,50 @@
 -- What a device has in memory, beside what its flash stands for.
-use Rattle.std.specs.Prelude.{◌≡◌, ◌⊎◌, ℕ, ◌+◌, ◌<◌, ◌≤◌, Bool, true, false, List, [], ◌∷◌, length, slice_set, Option, Some, None, IfSome, Result, Ok, Err}
+use Rattle.std.specs.Prelude.{◌≡◌, ℕ, Bool, true, false, List, Option, Some, None, IfSome, is_some}
 use Rattle.std.specs.Option.{option_map}
 use Rattle.paygo_spec.specs.declared.Config.{Config}
-use Rattle.paygo_spec.specs.declared.Entry.{Entry}
 use Rattle.paygo_spec.specs.declared.Event.{Event}
+use Rattle.paygo_spec.specs.declared.Event.TheVariants.{Power, Make}
 use Rattle.paygo_spec.specs.declared.Reply.{Reply}
 use Rattle.paygo_spec.specs.declared.Reply.TheVariants as reply_is
 use Rattle.paygo_spec.specs.Faults.{Rose}
-use Rattle.paygo_spec.specs.Flash.{FlashView, Becomes, Passes, Fails, TornProgram}
-use Rattle.paygo_spec.specs.History.{fresh, top}
-use Rattle.paygo_spec.specs.Rail.{railed}
-use Rattle.paygo_spec.specs.EntryNumber.{number_of}
-use Rattle.paygo_spec.specs.Layout.{IsBlank, IsLaidOut}
-use Rattle.paygo_spec.specs.Machine.{Act, Told, Stored, Blank, Journal, Stands, State, Takes, clock_at, reply_of}
+use Rattle.paygo_spec.specs.Flash.{FlashView}
+use Rattle.paygo_spec.specs.Calls.{DueAfter, DueWithin}
+use Rattle.paygo_spec.specs.Pad.{no_keys, kept_of}
+use Rattle.paygo_spec.specs.Recovery.{Recovered, recover}
+use Rattle.paygo_spec.specs.Recovery as recovered
+use Rattle.paygo_spec.specs.Machine.{Act, Told, Stored, State, StandsAs, Takes, reply_to_power, calls_of}
 use Rattle.paygo_spec.specs.Ran.{Stand}
-use Rattle.device_core.specs.Fit.{Kept, Down, IsToldStill}
-use Rattle.device_core.specs.declared.running.Running.{Running}
-use Rattle.device_core.specs.declared.running.AppendFault.{AppendFault}
-use Rattle.device_core.specs.declared.running.AppendFault.TheVariants as fault
+use Rattle.journal_laws.specs.Journal.{new_journal}
 use Rattle.device_core.specs.declared.device.Device.{Device}
 use Rattle.device_core.specs.declared.device.Phase.{Phase}
-use Rattle.device_core.specs.declared.device.Phase.TheVariants.{Off, Unmade, Up}
+use Rattle.device_core.specs.declared.device.Phase.TheVariants.{Off, Unmade, Damaged, Up}
 
--- A device that is up and has had these entries has this in memory.
-pub record IsUp (running : Running) (entries : List Entry) : Type 0 where
-  pub last : running.last ≡ top fresh entries
-  pub clock : running.clock ≡ clock_at running.config entries
-  pub place : running.place ≡ 12 + length entries
+-- What a device that is on found on its flash, or left there.
+abbrev pub found_by : Phase → Option Recovered
+found_by Off = None
+found_by Unmade = Some recovered.Unmade
+found_by (Damaged place) = Some (recovered.Damaged place)
+found_by (Up journal) = Some (recovered.Made journal)
 
--- It has one entry more in memory.
-pub record IsAdded (entry : Entry) (old new : Running) : Type 0 where
-  pub config : new.config ≡ old.config
-  pub more : (entries : List Entry) → IsUp old entries → IsUp new (entry ∷ entries)
-
--- What a call that appends an entry did: its word was programmed at the next place; or there was none, and nothing
--- changed; or the flash failed at it.
-abbrev pub Appends : Entry → Running → FlashView → Result (Unit {0}) AppendFault → Running → FlashView → Type 0
-Appends entry old was (Ok done) new now =
-    (old.place < 512) × Passes (λ words. slice_set words old.place (railed (number_of entry))) was now × IsAdded entry old new
-Appends entry old was (Err fault.Worn) new now = (old.place ≡ 512) × (new ≡ old) × (now ≡ was)
-Appends entry old was (Err fault.Flash) new now =
-    (old.place < 512) × Fails (Becomes (TornProgram old.place (railed (number_of entry)))) was now
-
--- What a device that is up did at an event that makes this entry or none.
-abbrev pub Outcome : Option Entry → Event → Running → FlashView → Reply → Running → FlashView → Type 0
-Outcome None event old was reply new now = (reply ≡ reply_of old.clock event None) × (new ≡ old) × (now ≡ was)
-Outcome (Some entry) event old was reply new now =
-    ((reply ≡ reply_is.Worn) × Appends entry old was (Err fault.Worn) new now) ⊎
-    (((reply ≡ reply_is.Down) × Appends entry old was (Err fault.Flash) new now) ⊎
-    ((reply ≡ reply_of new.clock event (Some entry)) × Appends entry old was (Ok tt) new now))
-
--- What the device has in memory fits what its flash stands for.
-abbrev pub FitsPhase : Phase → Stored → Type 0
-FitsPhase Off stored = Unit {0}
-FitsPhase Unmade stored = stored ≡ Blank
-FitsPhase (Up running) stored = (entries : List Entry) × (stored ≡ Journal running.config entries) × IsUp running entries
-
-abbrev pub Fits : Device → Stored → Type 0
-Fits device stored = FitsPhase device.phase stored
-
--- The words of the flash are those that a device in this phase left.
-abbrev pub Backs : Phase → List ℕ → Type 0
-Backs Off words = Unit {0}
-Backs Unmade words = IsBlank words
-Backs (Up running) words = (entries : List Entry) × IsUp running entries × IsLaidOut running.config entries words
-
-abbrev pub is_up : Phase → Bool
-is_up Off = false
-is_up _ = true
-
--- The device is on: up, or not made yet.
+-- The device is on: up, or not made yet, or on a damaged flash.
 abbrev pub is_on : Device → Bool
-is_on device = is_up device.phase
+is_on device = is_some (found_by device.phase)
 
--- What a device needs of its flash: where it is on, the flash is up, and its words, where it tells them, are those
--- that the device left.
+-- The words stand for what the device found on them or left there.
+abbrev pub Backs : Phase → List ℕ → Type 0
+Backs phase words = IfSome (found_by phase) (λ found. recover words ≡ found)
+
+-- What a device needs of its flash: where it is on, the flash is up, and its words, where it tells them, are those that
+-- the device left.
 pub record Holds (device : Device) (flash : FlashView) : Type 0 where
   pub up : is_on device ≡ true → flash.up ≡ true
   pub words : IfSome flash.words (Backs device.phase)
 
--- Device and flash stand for this state of the machine.
+-- Device and flash stand for this state of the machine. The device's `pad`, which its contracts name too, is what it keeps
+-- of the keys that were pressed since the pad was last cleared.
 pub record Agrees (device : Device) (flash : FlashView) (state : State) : Type 0 where
   pub on_is : state.on ≡ is_on device
-  pub fits : Fits device state.stored
+  pub pad_is : device.pad ≡ kept_of state.keys
   pub stand : Stand flash state
 
 -- The flash failed in this event, and the device is off.
@@ -90,30 +52,61 @@ pub record IsDown (old : Device) (was : FlashView) (new : Device) (now : FlashVi
   pub off : is_on new ≡ false
   pub rose : Rose was.faults now.faults
 
--- What a device does when its power comes, by its reply: it looks whether the headers are erased.
-abbrev pub Starts : Phase → Reply → FlashView → FlashView → Type 0
-Starts Unmade reply_is.Unmade was now = Kept was now × (now.up ≡ true) × IfSome was.words IsBlank
-Starts Off reply_is.Unbuilt was now = Kept was now × IfSome was.words (λ words. IsBlank words → ⊥)
-Starts Off reply_is.Down was now = Kept was now × Rose was.faults now.faults
-Starts _ _ was now = ⊥
-
--- What a device that isn't made does when it is asked to be: it is laid out on the flash and up; or the flash failed;
--- or the headers, which were erased when its power came, aren't erased now.
-abbrev pub Begins : Config → Phase → Reply → FlashView → FlashView → Type 0
-Begins config (Up running) (reply_is.Up count left free block) was now =
-    (count ≡ 0) × (left ≡ 0) × (free ≡ false) × (block ≡ 0) × (running.config ≡ config) × IsUp running [] × (now.up ≡ true) × (was.faults ≤ now.faults)
-    × Becomes (λ old new. IsLaidOut config [] new) was.words now.words
-Begins config Off reply_is.Down was now = IsToldStill was.words now.words × Down was now
-Begins config Off reply_is.Unbuilt was now = Kept was now × IfSome was.words (λ words. ⊥)
-Begins config _ _ was now = ⊥
-
--- The state of the machine that a device and its flash stand for.
-abbrev pub state_of : Device → Stored → FlashView → State
-state_of device stored flash = record { on = is_on device; stored = stored; faults = flash.faults }
-
--- Whatever the flash stands for, the reply to this event is one that the machine may give, and device and flash go on
--- to what it goes on to.
+-- Whatever device and flash stand for, the reply to this event is one that the machine may give, and device and flash go
+-- on to what it goes on to.
 abbrev pub Does : (List ℕ → ℕ → ℕ) → Event → Device → FlashView → Option Reply → Device → FlashView → Type 0
 Does next event old was reply new now =
-    (stored : Stored) → Fits old stored → Stands was.words stored →
-    (state : State) × Takes next (Act event) (option_map Told reply) (state_of old stored was) state × Agrees new now state
+    (state : State) → Agrees old was state → (after : State) × Takes next (Act event) (option_map Told reply) state after × Agrees new now after
+
+-- An event that makes so many calls of the flash, where that is said, is answered Down exactly where the due was below
+-- that number.
+abbrev pub Costs : Option ℕ → Option Reply → FlashView → FlashView → Type 0
+Costs None reply was now = Unit {0}
+Costs (Some calls) (Some reply_is.Down) was now = DueWithin calls was.due now.due
+Costs (Some calls) reply was now = DueAfter calls was.due now.due
+
+-- The calls that an event makes are those that the specification says, whatever device and flash stand for.
+abbrev pub CostsAsSaid : (List ℕ → ℕ → ℕ) → Event → Device → FlashView → Option Reply → FlashView → Type 0
+CostsAsSaid next event old was reply now = (state : State) → Agrees old was state → Costs (calls_of next state event) reply was now
+
+-- What the device found or left on its flash stands for this.
+abbrev pub Fits : Phase → Stored → Type 0
+Fits phase stored = IfSome (found_by phase) (λ found. StandsAs found stored)
+
+-- The device has this state of the machine in memory, whatever its flash tells: a history that what it found or left there
+-- can stand for, the keys of its pad, and the flash's count of faults.
+pub record Recalls (device : Device) (flash : FlashView) (state : State) : Type 0 where
+  pub on_is : state.on ≡ is_on device
+  pub pad_is : device.pad ≡ kept_of state.keys
+  pub fits : Fits device.phase state.stored
+  pub faults_are : state.faults ≡ flash.faults
+
+-- The power came: the flash failed, and the device is off; or it is on, with a cleared pad, and what it found stands for
+-- something, as of which it answers, whatever that is.
+abbrev pub PowersBy : Option Reply → Device → Type 0
+PowersBy (Some reply_is.Down) new = is_on new ≡ false
+PowersBy reply new =
+    (is_on new ≡ true) × (new.pad ≡ kept_of no_keys) × ((stored : Stored) × Fits new.phase stored)
+    × ((stored : Stored) → Fits new.phase stored → reply ≡ Some (reply_to_power stored))
+
+-- A device that isn't made is asked to be. The flash failed, and the device is off; or it is made, and up; or, where
+-- another wrote the flash in the meantime, the device says so: on a damaged flash it is damaged, and where it meets another
+-- device it is off.
+abbrev pub MakesBy : Config → Option Reply → Device → Device → Type 0
+MakesBy config (Some reply_is.Down) old new = is_on new ≡ false
+MakesBy config (Some (reply_is.Damaged place)) old new = (found_by new.phase ≡ Some (recovered.Damaged place)) × (new.pad ≡ old.pad)
+MakesBy config (Some (reply_is.Made number)) old new = is_on new ≡ false
+MakesBy config reply old new =
+    (reply ≡ Some (reply_is.Up 0 0 false 0)) × (found_by new.phase ≡ Some (recovered.Made (new_journal config))) × (new.pad ≡ old.pad)
+
+-- Any other event is a step of the machine, from whatever the device has in memory to what it has there then.
+abbrev pub RecallsBy : (List ℕ → ℕ → ℕ) → Event → Device → FlashView → Option Reply → Device → FlashView → Type 0
+RecallsBy next event old was reply new now =
+    (state : State) → Recalls old was state → (after : State) × Takes next (Act event) (option_map Told reply) state after × Recalls new now after
+
+-- What the device answers, and has in memory then, follows what it has in memory, also where its flash tells no words.
+abbrev pub Remembers : (List ℕ → ℕ → ℕ) → Event → Device → FlashView → Option Reply → Device → FlashView → Type 0
+Remembers next Power old was reply new now = PowersBy reply new
+Remembers next (Make config) old was reply new now =
+    (old.phase ≡ Unmade → MakesBy config reply old new) × ((old.phase ≡ Unmade → ⊥) → RecallsBy next (Make config) old was reply new now)
+Remembers next event old was reply new now = RecallsBy next event old was reply new now

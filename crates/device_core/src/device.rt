@@ -1,12 +1,10 @@
 // A device and its events.
-ghost use Rattle.std.specs.Prelude.{◌≡◌, true, IfSome};
-ghost use Rattle.paygo_spec.specs.Layout.{IsBlank};
-ghost use Rattle.paygo_spec.specs.Machine.{IsConfig};
-ghost use Rattle.device_core.specs.Memory.{Starts, Begins};
-
-use crate::layout::{is_blank, lay_out};
-use crate::running::Running;
-use paygo_outside::{Flash, FlashFault};
+use crate::made::ask_made;
+use crate::power::{greeting, start};
+use crate::unmade::{answer_only, begin};
+use bank_journal::Journal;
+use keypad_entry::Pad;
+use paygo_outside::Flash;
 use paygo_spec::{Config, Event, Reply};
 use token_chain::Mixer;
 
@@ -17,39 +15,54 @@ pub enum Phase {
     Off,
     /// It is on, and wasn't made yet.
     Unmade,
+    /// It is on, and its flash is damaged, as the word at this place shows.
+    Damaged(u16),
     /// It is up.
-    Up(Running),
+    Up(Journal),
 }
 
 /// A device: what it holds in memory beside its flash.
 #[derive(Drop)]
 pub struct Device {
     phase: Phase,
+    pad: Pad,
 }
 
 impl Device {
-    ghost use Rattle.std.specs.Prelude.{◌≡◌, ◌≤◌, ℕ, List, true, false, Some, IsSome};
-    ghost use Rattle.paygo_spec.specs.declared.Event.TheVariants.{Power, Make, Enter, Tick};
-    ghost use Rattle.paygo_spec.specs.Faults.{Rose};
-    ghost use Rattle.paygo_spec.specs.Words.{digits_from};
-    ghost use Rattle.paygo_spec.specs.Machine.{IsConfig, IsEvent};
-    ghost use Rattle.device_core.specs.Memory.{is_on, Holds, IsDown, Does};
+    ghost use Rattle.std.specs.Prelude.{◌≡◌, ◌≢◌, ◌≤◌, ℕ, List, true, false, Some, IfSome};
+    ghost use Rattle.paygo_spec.specs.Pad.{kept_of, no_keys};
+    ghost use Rattle.paygo_spec.specs.Machine.{IsEvent, IsConfig};
+    ghost use Rattle.device_core.specs.Memory.{is_on, Holds, IsDown, Does, CostsAsSaid, Remembers};
+    ghost use Rattle.device_core.specs.Changes.{Handled, settled};
 
     /// A device before its first event: it is off.
     pub fn off() -> Device
-        ensures { is_on result ≡ false }
+        ensures off { is_on result ≡ false }
+        ensures pad { result.pad ≡ kept_of no_keys }
     {
-        Device { phase: Phase::Off }
+        Device {
+            phase: Phase::Off,
+            pad: Pad::empty(),
+        }
     }
 
-    /// One event. The reply is one that the machine of the specification may give, and what the device holds in memory
-    /// and what its flash stands for afterwards is what that machine goes on to; a device that is off answers nothing
-    /// but to `Power`.
+    /// One event. The reply, or that there is none, is what the machine of the specification may give, and what the device
+    /// holds in memory and what its flash stands for afterwards is what that machine goes on to.
     ///
-    /// The caller sees to it that the event is one that may be asked for, and that a device that is on is handed the
-    /// flash as it left it. An accepted token or time that passed is answered only when the flash stands for the
-    /// history with it. `Down` is answered only where the flash's count of faults rose in this call, or stands at
-    /// 2^64 - 1, and leaves the device off. `Worn` leaves everything as it was.
+    /// A device that is off answers nothing but to `Power`. An entry at the keypad is judged in this order: its length, its
+    /// digits, a block, whether it is old; then, where it changes the state, whether the flash has room, and whether the
+    /// flash fails; then it is accepted or invalid. A tick is told to the pad before it does anything else.
+    ///
+    /// The caller sees to it that the event is one that may be asked for, and that a device that is on is handed the flash
+    /// as it left it. An accepted, invalid or ticked reply comes only when the flash stands for the history with the event.
+    /// `Down` comes only where the flash's count of faults rose in this call, or stands at 2^64 - 1, and leaves the device
+    /// off; where the flash tells its words and its due, it comes exactly where the due is below the number of calls that the
+    /// event makes, which is said but for `Power` on a damaged flash. `Worn` leaves the history as it was, and `Power` every
+    /// word, also of a damaged flash.
+    ///
+    /// Over a flash that tells no words, as a file tells none, the replies still follow what the device has in memory: what it
+    /// found when its power came, and what it did since then. Where such a flash was written by another in the meantime, a
+    /// device that isn't made says at `Make` what it finds: that it is damaged, or that a device was made, and then it is off.
     pub fn event<M: Mixer, F: Flash>(&mut self, flash: &mut F, event: Event) -> Option<Reply>
         requires event { IsEvent event }
         requires holds { Holds self.old (F.view flash.old) }
@@ -57,128 +70,93 @@ impl Device {
         ensures later { (F.view flash.old).faults ≤ (F.view flash.new).faults }
         ensures down { result ≡ Some Reply.Down → IsDown self.old (F.view flash.old) self.new (F.view flash.new) }
         ensures step { Does M.next event self.old (F.view flash.old) result self.new (F.view flash.new) }
+        ensures calls { CostsAsSaid M.next event self.old (F.view flash.old) result (F.view flash.new) }
+        ensures kept { event ≡ Event.Power → (F.view flash.new).words ≡ (F.view flash.old).words }
+        ensures memory { Remembers M.next event self.old (F.view flash.old) result self.new (F.view flash.new) }
     {
-        match event {
-            Event::Power => Some(self.power(flash)),
-            Event::Make(config) => self.make(flash, config),
-            Event::Enter { digits } => self.enter::<M, F>(flash, &digits),
-            Event::Tick(seconds) => self.tick(flash, seconds),
-        }
-    }
-
-    // The power comes on.
-    fn power<F: Flash>(&mut self, flash: &mut F) -> Reply
-        ensures holds { Holds self.new (F.view flash.new) }
-        ensures later { (F.view flash.old).faults ≤ (F.view flash.new).faults }
-        ensures down { result ≡ Reply.Down → IsDown self.old (F.view flash.old) self.new (F.view flash.new) }
-        ensures step { (next : List ℕ → ℕ → ℕ) → Does next Power self.old (F.view flash.old) (Some result) self.new (F.view flash.new) }
-    {
-        let (phase, reply) = power_up(flash);
-        self.phase = phase;
+        let reply = self.react::<M, F>(flash, event);
+        self.settle(&reply);
         reply
     }
 
-    // The device is asked to be made.
-    fn make<F: Flash>(&mut self, flash: &mut F, config: Config) -> Option<Reply>
-        requires config { IsConfig config }
+    // Does what an event asks for. Where the flash failed, the device has still to be settled.
+    fn react<M: Mixer, F: Flash>(&mut self, flash: &mut F, event: Event) -> Option<Reply>
+        requires event { IsEvent event }
         requires holds { Holds self.old (F.view flash.old) }
-        ensures holds { Holds self.new (F.view flash.new) }
-        ensures later { (F.view flash.old).faults ≤ (F.view flash.new).faults }
-        ensures down { result ≡ Some Reply.Down → IsDown self.old (F.view flash.old) self.new (F.view flash.new) }
-        ensures step { (next : List ℕ → ℕ → ℕ) → Does next (Make config) self.old (F.view flash.old) result self.new (F.view flash.new) }
+        ensures { Handled M.next event self.old (F.view flash.old) result (settled result self.new) (F.view flash.new) }
     {
-        match &self.phase {
+        match event {
+            Event::Power => Some(self.power(flash)),
+            _ => self.ask::<M, F>(flash, event),
+        }
+    }
+
+    // Is off after `Down`, with a cleared pad, and stays as it is after any other reply.
+    fn settle(&mut self, reply: &Option<Reply>)
+        ensures { self.new ≡ settled reply.now self.old }
+    {
+        if *reply == Some(Reply::Down) {
+            *self = Device::off();
+        }
+    }
+
+    // The power comes on, or comes back.
+    fn power<F: Flash>(&mut self, flash: &mut F) -> Reply
+        ensures { (next : List ℕ → ℕ → ℕ) →
+            Handled next Event.Power self.old (F.view flash.old) (Some result) (settled (Some result) self.new) (F.view flash.new) }
+    {
+        let phase = start(flash);
+        let reply = greeting(&phase);
+        *self = Device {
+            phase,
+            pad: Pad::empty(),
+        };
+        reply
+    }
+
+    // Any event but `Power`.
+    fn ask<M: Mixer, F: Flash>(&mut self, flash: &mut F, event: Event) -> Option<Reply>
+        requires event { IsEvent event }
+        requires other { event ≢ Event.Power }
+        requires holds { Holds self.old (F.view flash.old) }
+        ensures { Handled M.next event self.old (F.view flash.old) result (settled result self.new) (F.view flash.new) }
+    {
+        match &mut self.phase {
             Phase::Off => None,
-            Phase::Unmade => {
-                let (phase, reply) = begin(flash, config);
-                self.phase = phase;
-                Some(reply)
+            Phase::Unmade => self.ask_unmade(flash, event),
+            Phase::Damaged(place) => {
+                let place = *place;
+                answer_only(&mut self.pad, event, Reply::Damaged { place })
             }
-            Phase::Up(_) => Some(Reply::Made { number: 1 }),
+            Phase::Up(journal) => ask_made::<M, F>(journal, &mut self.pad, flash, event),
         }
     }
 
-    // Nine digits are handed in.
-    fn enter<M: Mixer, F: Flash>(&mut self, flash: &mut F, digits: &[u8; 9]) -> Option<Reply>
-        requires digits { IsSome (digits_from 0 digits.now) }
+    // Any event but `Power`, where the device isn't made yet.
+    fn ask_unmade<F: Flash>(&mut self, flash: &mut F, event: Event) -> Option<Reply>
+        requires event { IsEvent event }
+        requires other { event ≢ Event.Power }
+        requires unmade { self.old.phase ≡ Phase.Unmade }
         requires holds { Holds self.old (F.view flash.old) }
-        ensures holds { Holds self.new (F.view flash.new) }
-        ensures later { (F.view flash.old).faults ≤ (F.view flash.new).faults }
-        ensures down { result ≡ Some Reply.Down → IsDown self.old (F.view flash.old) self.new (F.view flash.new) }
-        ensures step { Does M.next (Enter digits.now) self.old (F.view flash.old) result self.new (F.view flash.new) }
+        ensures { (next : List ℕ → ℕ → ℕ) →
+            Handled next event self.old (F.view flash.old) result (settled result self.new) (F.view flash.new) }
     {
-        match &mut self.phase {
-            Phase::Off => None,
-            Phase::Unmade => Some(Reply::Unmade),
-            Phase::Up(running) => match running.enter::<M, F>(flash, digits) {
-                Reply::Down => {
-                    self.phase = Phase::Off;
-                    Some(Reply::Down)
-                }
-                reply => Some(reply),
-            },
+        match event {
+            Event::Make(config) => Some(self.make(flash, &config)),
+            _ => answer_only(&mut self.pad, event, Reply::Unmade),
         }
     }
 
-    // Seconds pass.
-    fn tick<F: Flash>(&mut self, flash: &mut F, seconds: u32) -> Option<Reply>
-        requires seconds { seconds ≤ 999999999 }
+    // The device is asked to be made, where it isn't yet.
+    fn make<F: Flash>(&mut self, flash: &mut F, config: &Config) -> Reply
+        requires config { IsConfig config.now }
+        requires unmade { self.old.phase ≡ Phase.Unmade }
         requires holds { Holds self.old (F.view flash.old) }
-        ensures holds { Holds self.new (F.view flash.new) }
-        ensures later { (F.view flash.old).faults ≤ (F.view flash.new).faults }
-        ensures down { result ≡ Some Reply.Down → IsDown self.old (F.view flash.old) self.new (F.view flash.new) }
-        ensures step { (next : List ℕ → ℕ → ℕ) → Does next (Tick seconds) self.old (F.view flash.old) result self.new (F.view flash.new) }
+        ensures { (next : List ℕ → ℕ → ℕ) →
+            Handled next (Event.Make config.now) self.old (F.view flash.old) (Some result) (settled (Some result) self.new) (F.view flash.new) }
     {
-        match &mut self.phase {
-            Phase::Off => None,
-            Phase::Unmade => Some(Reply::Unmade),
-            Phase::Up(running) => match running.tick(flash, seconds) {
-                Reply::Down => {
-                    self.phase = Phase::Off;
-                    Some(Reply::Down)
-                }
-                reply => Some(reply),
-            },
-        }
-    }
-}
-
-// Powers the flash up, and answers what a device does then, and its reply.
-fn power_up<F: Flash>(flash: &mut F) -> (Phase, Reply)
-    ensures { Starts result.0 result.1 (F.view flash.old) (F.view flash.new) }
-{
-    if flash.power_up().is_err() {
-        return (Phase::Off, Reply::Down);
-    }
-    match is_blank(flash) {
-        Ok(true) => (Phase::Unmade, Reply::Unmade),
-        Ok(false) => (Phase::Off, Reply::Unbuilt),
-        Err(FlashFault) => (Phase::Off, Reply::Down),
-    }
-}
-
-// Makes a device on a flash whose headers are erased, and answers what the device does then, and its reply.
-fn begin<F: Flash>(flash: &mut F, config: Config) -> (Phase, Reply)
-    requires config { IsConfig config }
-    requires up { (F.view flash.old).up ≡ true }
-    requires blank { IfSome (F.view flash.old).words IsBlank }
-    ensures { Begins config result.0 result.1 (F.view flash.old) (F.view flash.new) }
-{
-    match is_blank(flash) {
-        Ok(true) => {}
-        Ok(false) => return (Phase::Off, Reply::Unbuilt),
-        Err(FlashFault) => return (Phase::Off, Reply::Down),
-    }
-    match lay_out(flash, &config) {
-        Ok(()) => (
-            Phase::Up(Running::new(config)),
-            Reply::Up {
-                count: 0,
-                left: 0,
-                free: false,
-                block: 0,
-            },
-        ),
-        Err(FlashFault) => (Phase::Off, Reply::Down),
+        let (phase, reply) = begin(flash, config);
+        self.phase = phase;
+        reply
     }
 }

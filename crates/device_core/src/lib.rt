@@ -1,12 +1,13 @@
-// The device: events come in, replies go out, and between them the flash is programmed.
+// The device: events come in, replies go out, and between them its journal is written.
 #![tactic(auto)]
 
+mod decision;
 mod device;
-mod entry;
-mod layout;
+mod made;
+mod power;
+mod replies;
 mod reply_text;
-mod running;
-mod search;
+mod unmade;
 
 pub use device::Device;
 pub use paygo_spec::{Config, Event, Reply};

@@ -1,6 +1,6 @@
 -- What a press of a key answers.
 use Rattle.std.specs.Prelude.{ℕ, ◌==◌, if◌then◌else◌}
-use Rattle.paygo_spec.specs.Pad.{Keys, entry_of, held_of}
+use Rattle.paygo_spec.specs.Pad.{Keys, handed_over, held_of}
 use Rattle.keypad_entry.specs.declared.Press.{Press}
 use Rattle.keypad_entry.specs.declared.Press.TheVariants.{Held, Cleared, Entry}
 
@@ -8,5 +8,5 @@ use Rattle.keypad_entry.specs.declared.Press.TheVariants.{Held, Cleared, Entry}
 abbrev pub press_of : ℕ → Keys → Press
 press_of key keys =
     if key == 42 then Cleared
-    else if key == 35 then Entry (entry_of keys.pressed) (held_of keys)
+    else if key == 35 then Entry (handed_over keys.pressed) (held_of keys)
     else Held

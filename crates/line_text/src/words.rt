@@ -1,14 +1,14 @@
 // Words and numbers read out of a line.
 ghost use Rattle.std.specs.Prelude.{◌≡◌, ◌≤◌, ◌<◌, ◌^◌, IfSome, length, option_copied, position};
 ghost use Rattle.std.specs.Option.{option_map};
-ghost use Rattle.paygo_spec.specs.Words.{is_digit, is_space, digits_from, number_in, key_in};
+ghost use Rattle.paygo_spec.specs.Words.{is_decimal, is_space, digits_from, decimal_in, key_in};
 ghost use Rattle.paygo_spec.specs.Words.{after_prefix as text_behind, first_word as word_parts};
 
 use hex::FromHex;
 
 // Whether a byte is a decimal digit.
 fn digit(c: u8) -> bool
-    ensures { result ≡ is_digit c }
+    ensures { result ≡ is_decimal c }
 {
     b'0' <= c && c <= b'9'
 }
@@ -57,7 +57,7 @@ fn digits(word: &[u8]) -> Option<u64>
 /// `most` is at most 18.
 pub fn number(word: &[u8], most: usize) -> Option<u64>
     requires { most ≤ 18 }
-    ensures value { result ≡ number_in most word.now }
+    ensures value { result ≡ decimal_in most word.now }
     ensures below { IfSome result (λ n. n < 10 ^ most) }
 {
     if word.is_empty() || word.len() > most {

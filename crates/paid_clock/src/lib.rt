@@ -1,16 +1,14 @@
 // The clock of a device: how much time is paid for, whether the device is free, and how long entries are blocked.
 #![tactic(auto)]
 
-ghost use Rattle.std.specs.Prelude.{◌≡◌, ◌≤◌, ◌*◌, ◌^◌, true, false, ℕ, List, ◌↔◌, [], MatchOption, if◌then◌else◌};
+ghost use Rattle.std.specs.Prelude.{◌≡◌, ◌≤◌, ◌*◌, ◌^◌, true, false, ℕ, List, [], MatchOption, if◌then◌else◌};
 ghost use Rattle.paygo_spec.specs.declared.Entry.{Entry};
 ghost use Rattle.paygo_spec.specs.declared.Entry.TheVariants.{Accept, Bad, Elapsed};
 ghost use Rattle.paygo_spec.specs.History.{Summary};
 ghost use Rattle.paygo_spec.specs.Clock.{ClockView, clock_with, clock_after, clock_of, is_clock, IsClock, HasEffect, CameUnblocked};
 
+use paygo_spec::MOST_LEFT;
 use std::marker::Model;
-
-/// The greatest time left, in seconds: more than 30,000 years.
-const MOST_LEFT: u64 = 1_000_000_000_000;
 
 /// The number at which failures stop.
 const MOST_FAILS: u8 = 10;
@@ -171,11 +169,6 @@ fn block_of(fails: u8) -> u32
 pub fn rule_is_kept()
     ensures { (unit : ℕ) (start : Summary) (entries : List Entry) → unit ≤ 86400 → IsClock (clock_of unit start []) →
         CameUnblocked unit start entries → IsClock (clock_of unit start entries) }
-{}
-
-/// The test of a clock's rule and the rule agree: a law.
-pub fn test_agrees()
-    ensures { (clock : ClockView) → ((is_clock clock ≡ true) ↔ IsClock clock) }
 {}
 
 #[cfg(test)]

@@ -73,5 +73,4 @@ fn clocks_of_parts(rt: HostRuntime) {
         Clock::of_parts(2_592_000, false, 2, 240).is_some_and(|clock| parts(&clock) == kept)
     );
     rule_is_kept();
-    test_agrees();
 }

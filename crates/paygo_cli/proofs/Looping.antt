@@ -7,22 +7,24 @@ use Rattle.paygo_spec.specs.declared.Status.TheVariants as status
 use Rattle.paygo_spec.specs.Flash.{FlashView}
 use Rattle.paygo_spec.specs.Streams.{SourceView, SinkView, raised}
 use Rattle.paygo_spec.specs.Lines.{lines_from, rest_from, whole_lines, last_line, all_lines}
-use Rattle.paygo_spec.specs.Machine.{Step, State, Stored, Stands, steps_of_line}
+use Rattle.paygo_spec.specs.Machine.{Step, Answer, State, Stored, Stands, Run, steps_of_line}
 use Rattle.paygo_spec.specs.Text.{text}
-use Rattle.paygo_spec.specs.Ran.{steps_of, starting, Answered, Ran}
+use Rattle.paygo_spec.specs.Ran.{steps_of, starting, lines_taken, Stand, Answered, Ran}
 use Rattle.device_core.specs.declared.device.Device.{Device}
-use Rattle.device_core.specs.declared.device.Phase.{Phase}
-use Rattle.device_core.specs.declared.device.Phase.TheVariants.{Off, Unmade, Up}
 use Rattle.std.proofs.lemmas.Bool.{cases_eq}
-use Rattle.device_core.specs.Memory.{Agrees, Holds, is_on, is_up}
-use Rattle.device_core.proofs.Powering.{off_backed}
+use Rattle.std.specs.Prelude.{IfSome, is_some}
+use Rattle.paygo_spec.specs.Pad.{kept_of, no_keys}
+use Rattle.paygo_spec.specs.Recovery.{Recovered, recover}
+use Rattle.device_core.specs.Memory.{Agrees, Backs, Holds, found_by, is_on}
 use Rattle.paygo_outside.specs.declared.sink.WriteFault.{WriteFault}
 use Rattle.bench_run.specs.Reader.{LinesView, Came, IsLine}
 use Rattle.bench_run.specs.Bench.{Done, Works}
+use Rattle.bench_run.proofs.Gathering.{raised-raised}
 use Rattle.bench_run.proofs.Cuts.{lines-append, rest-append, rest_whole, line-append, rest-line}
 use Rattle.bench_run.proofs.Runs.{done_more, cut_more, answered}
-use Rattle.paygo_cli.specs.Runs.{Causes, IsLong, RunOf}
-use Rattle.paygo_cli.specs.Turn.{Parts, Untouched, Turns}
+use Rattle.paygo_cli.specs.Runs.{NeverFalls, Causes, IsLong, RisesAtDowns, answers_in, RunOf}
+use Rattle.paygo_cli.proofs.Faultless.{rises}
+use Rattle.paygo_cli.specs.Turn.{Parts, Untouched, Turns, Turned}
 
 -- Where a run is in its bytes: at the end of a line, with the steps of all whole lines behind it; or behind the last
 -- piece of an input that ended.
@@ -62,10 +64,25 @@ pub record Advanced (steps : List Step) (gone line bytes : List ℕ) (new : Line
   pub now : List ℕ
   pub split : gone ++ bytes ≡ now ++ new.held
   pub place : Place (steps ++ steps_of_line line) now new
-  pub others : List Step
-  pub all : steps_of (all_lines (gone ++ bytes)) ≡ (steps ++ steps_of_line line) ++ others
+  pub all : (ended : Bool) → (new.ended ≡ true → ended ≡ true) → (others : List Step) × (steps_of (lines_taken ended (gone ++ bytes)) ≡ (steps ++ steps_of_line line) ++ others)
 
 module _ (steps : List Step) (gone line bytes : List ℕ) (new : LinesView) (end : rest_from [] gone ≡ []) (is : steps ≡ steps_of (whole_lines gone)) (none : whole_lines line ≡ []) where
+  -- the steps of these lines, where the first of them are done
+  taken_by_lines : (lines behind : List (List ℕ)) → lines ≡ whole_lines gone ++ line ∷ behind → steps_of lines ≡ (steps ++ steps_of_line line) ++ steps_of behind
+  taken_by_lines lines behind e =
+      ap steps_of e ∙ steps-append (whole_lines gone) (line ∷ behind) ∙ ap (λ l. l ++ (steps_of_line line ++ steps_of behind)) (sym is)
+      ∙ sym (append_assoc steps (steps_of_line line) (steps_of behind))
+
+  all_with_end : bytes ≡ line ++ 10 ∷ new.held → (ended : Bool) → (others : List Step) × (steps_of (lines_taken ended (gone ++ bytes)) ≡ (steps ++ steps_of_line line) ++ others)
+  all_with_end e true = (
+    steps_of (all_lines new.held),
+    taken_by_lines _ _ (ap (λ l. all_lines (gone ++ l)) e ∙ all_behind gone (line ++ 10 ∷ new.held) end ∙ ap (λ ls. whole_lines gone ++ ls) (all_line line new.held none)),
+  )
+  all_with_end e false = (
+    steps_of (whole_lines new.held),
+    taken_by_lines _ _ (ap (λ l. whole_lines (gone ++ l)) e ∙ lines_behind gone (line ++ 10 ∷ new.held) end ∙ ap (λ ls. whole_lines gone ++ ls) (line-append line new.held none)),
+  )
+
   with_end : bytes ≡ line ++ 10 ∷ new.held → Advanced steps gone line bytes new
   with_end e =
       let whole : whole_lines (line ++ 10 ∷ []) ≡ line ∷ [] = line-append line [] none in
@@ -77,11 +94,16 @@ module _ (steps : List Step) (gone line bytes : List ℕ) (new : LinesView) (end
           sym (ap steps_of (lines_behind gone (line ++ 10 ∷ []) end ∙ ap (λ ls. whole_lines gone ++ ls) whole)
               ∙ steps-append (whole_lines gone) (line ∷ []) ∙ ap (λ l. l ++ (steps_of_line line ++ [])) (sym is) ∙ ap (λ l. steps ++ l) (append-nil (steps_of_line line))),
         );
-        others = steps_of (all_lines new.held);
-        all = ap (λ l. steps_of (all_lines (gone ++ l))) e ∙ ap steps_of (all_behind gone (line ++ 10 ∷ new.held) end ∙ ap (λ ls. whole_lines gone ++ ls) (all_line line new.held none))
-            ∙ steps-append (whole_lines gone) (line ∷ all_lines new.held) ∙ ap (λ l. l ++ (steps_of_line line ++ steps_of (all_lines new.held))) (sym is)
-            ∙ sym (append_assoc steps (steps_of_line line) (steps_of (all_lines new.held)));
+        all = λ ended told. all_with_end e ended;
       }
+
+  all_without_end : bytes ≡ line → new.ended ≡ true → line ≢ [] → (ended : Bool) → (new.ended ≡ true → ended ≡ true)
+      → (others : List Step) × (steps_of (lines_taken ended (gone ++ bytes)) ≡ (steps ++ steps_of_line line) ++ others)
+  all_without_end e was some true told = (
+    [],
+    taken_by_lines _ _ (ap (λ l. all_lines (gone ++ l)) e ∙ all_behind gone line end ∙ ap (λ ls. whole_lines gone ++ ls) (all_last line none some)),
+  )
+  all_without_end e was some false told = absurd (let both : false ≡ true = told was in cc)
 
   without_end : bytes ≡ line → new.held ≡ [] → new.ended ≡ true → line ≢ [] → Advanced steps gone line bytes new
   without_end e held ended some =
@@ -92,8 +114,7 @@ module _ (steps : List Step) (gone line bytes : List ℕ) (new : LinesView) (end
         now = gone ++ line;
         split = ap (λ l. gone ++ l) e ∙ sym (append-nil (gone ++ line)) ∙ ap (λ l. (gone ++ line) ++ l) (sym held);
         place = inr (ended, held, sym all);
-        others = [];
-        all = ap (λ l. steps_of (all_lines (gone ++ l))) e ∙ all ∙ sym (append-nil (steps ++ steps_of_line line));
+        all = all_without_end e ended some;
       }
 
 no_byte : (line rest : List ℕ) → [] ≡ line ++ 10 ∷ rest → ⊥
@@ -115,6 +136,25 @@ next_left : (known : Option (List ℕ)) (rest given : List ℕ) → Some rest �
 next_left None rest given is = cc
 next_left (Some left) rest given is = (left, refl, cc)
 
+-- steps that were done, and a line of which the first steps were taken
+split_in : (done line front others behind : List Step) → line ≡ front ++ others → (done ++ line) ++ behind ≡ (done ++ front) ++ (others ++ behind)
+split_in done line front others behind split =
+    ap (λ l. (done ++ l) ++ behind) split ∙ ap (λ l. l ++ behind) (sym (append_assoc done front others)) ∙ append_assoc (done ++ front) others behind
+
+-- each `down` of a run has a rise of its own, up to the flash's count of faults
+rises_to : (next : List ℕ → ℕ → ℕ) (start now : State) (steps : List Step) (answers : List (Option Answer)) (flash : FlashView) → Run next start steps answers now → Stand flash now
+    → (counts : List ℕ) × RisesAtDowns start.faults answers counts flash.faults
+rises_to next start now steps answers flash run stand =
+    subst (λ (n : ℕ). (counts : List ℕ) × RisesAtDowns start.faults answers counts n) stand.faults (rises next start now steps answers run)
+
+rises_in : (next : List ℕ → ℕ → ℕ) (result : Status) (ended : Bool) (taken before : List ℕ) (start : State) (flash : FlashView) (sink : SinkView) (ran : Ran next result ended taken start before flash sink)
+    → (counts : List ℕ) × RisesAtDowns start.faults (answers_in next result ended taken start before flash sink ran) counts flash.faults
+rises_in next status.Ok ended taken before start flash sink ran = rises_to next start ran.now _ ran.answers flash ran.run ran.stand
+rises_in next status.Read ended taken before start flash sink ran = rises_to next start ran.now _ ran.answers flash ran.run ran.stand
+rises_in next status.Long ended taken before start flash sink ran = rises_to next start ran.now _ ran.answers flash ran.run ran.stand
+rises_in next status.Write ended taken before start flash sink ran = rises_to next start ran.3.now ran.0 (ran.3.earlier ++ ran.3.last ∷ []) flash ran.3.run ran.3.stand
+rises_in next status.Usage ended taken before start flash sink ran = absurd ran
+
 -- What a run did up to here: the bytes of the lines that were taken, and the steps of these lines.
 pub record SoFar (next : List ℕ → ℕ → ℕ) (bytes before : List ℕ) (start : State) (now : Parts) : Type 0 where
   pub gone : List ℕ
@@ -128,7 +168,7 @@ pub record SoFar (next : List ℕ → ℕ → ℕ) (bytes before : List ℕ) (st
 -- What a run did when it ended: the bytes that were taken, and what was answered by its status.
 abbrev pub Ended : (List ℕ → ℕ → ℕ) → Status → List ℕ → List ℕ → State → Parts → Type 0
 Ended next result bytes before start now =
-    (taken : List ℕ) × (rest : List ℕ) × (bytes ≡ taken ++ rest) × (now.source.left ≡ Some rest) × Ran next result taken start before now.flash now.sink
+    (taken : List ℕ) × (rest : List ℕ) × (bytes ≡ taken ++ rest) × (now.source.left ≡ Some rest) × Ran next result now.source.ended taken start before now.flash now.sink
 
 module _ (next : List ℕ → ℕ → ℕ) (bytes before : List ℕ) (start : State) (old new : Parts) (so_far : SoFar next bytes before start old) (came : List ℕ) (counts : Came came old.lines new.lines old.source new.source) where
   more_left : (left : List ℕ) × (new.source.left ≡ Some left) × (so_far.rest ≡ came ++ left)
@@ -155,20 +195,21 @@ module _ (next : List ℕ → ℕ → ℕ) (bytes before : List ℕ) (start : St
       place = further.place;
     }
 
-    pub was_cut : (fault : WriteFault) → Works next (steps_of_line line) (Err fault) old.device old.flash old.sink new.device new.flash new.sink → Ended next status.Write bytes before start new
-    was_cut fault works = (
-      so_far.gone ++ (old.lines.held ++ came),
-      more_left.0,
-      taken_now,
-      more_left.1,
-      (
-        so_far.steps ++ steps_of_line line,
-        further.others,
-        further.all,
-        cut_more next so_far.steps (steps_of_line line) start before old.device new.device old.flash new.flash old.sink new.sink so_far.done
-            (works so_far.done.now (before ++ text so_far.done.answers) so_far.done.agrees so_far.done.written),
-      ),
-    )
+    pub was_cut : (new.lines.ended ≡ true → new.source.ended ≡ true) → (fault : WriteFault) → Works next (steps_of_line line) (Err fault) old.device old.flash old.sink new.device new.flash new.sink → Ended next status.Write bytes before start new
+    was_cut told fault works =
+        let stopped = works so_far.done.now (before ++ text so_far.done.answers) so_far.done.agrees so_far.done.written in
+        let all = further.all new.source.ended told in (
+          so_far.gone ++ (old.lines.held ++ came),
+          more_left.0,
+          taken_now,
+          more_left.1,
+          (
+            so_far.steps ++ stopped.front,
+            stopped.others ++ all.0,
+            all.1 ∙ split_in so_far.steps (steps_of_line line) stopped.front stopped.others all.0 stopped.split,
+            cut_more next so_far.steps stopped.front start before old.device new.device old.flash new.flash old.sink new.sink so_far.done stopped.cut,
+          ),
+        )
 
   stayed : Untouched old new → Answered next so_far.steps start before new.flash new.sink
   stayed same =
@@ -215,12 +256,12 @@ module _ (next : List ℕ → ℕ → ℕ) (bytes before : List ℕ) (start : St
   )
 
   -- how a run ends
-  pub run_ends : (result : Status) → Turns next (Some result) came old new → Ended next result bytes before start new
-  run_ends status.Ok turns = at_end turns.0 turns.3
-  run_ends status.Usage turns = absurd turns
-  run_ends status.Read turns = not_read turns.0 turns.2 turns.4
-  run_ends status.Write turns = was_cut turns.0.1.line turns.0.1.is_line turns.0.0 turns.0.1.works
-  run_ends status.Long turns = too_long turns.0 turns.2 turns.3
+  pub run_ends : (new.lines.ended ≡ true → new.source.ended ≡ true) → (result : Status) → Turns next (Some result) came old new → Ended next result bytes before start new
+  run_ends told status.Ok turns = at_end turns.0 turns.3
+  run_ends told status.Usage turns = absurd turns
+  run_ends told status.Read turns = not_read turns.0 turns.2 turns.4
+  run_ends told status.Write turns = was_cut turns.0.1.line turns.0.1.is_line told turns.0.0 turns.0.1.works
+  run_ends told status.Long turns = too_long turns.0 turns.2 turns.3
 
 -- What stays true from turn to turn.
 pub record Going (next : List ℕ → ℕ → ℕ) (old now : Parts) : Type 0 where
@@ -236,8 +277,8 @@ pub record Going (next : List ℕ → ℕ → ℕ) (old now : Parts) : Type 0 wh
       → SoFar next bytes before (starting stored old.flash.faults) now
 
 -- before the first turn
-pub begins : (next : List ℕ → ℕ → ℕ) (old : Parts) → old.lines ≡ record { budget = 2 ^ 40; taken = 0; held = []; ended = false } → old.device.phase ≡ Off → Going next old old
-begins next old lines off = record {
+pub begins : (next : List ℕ → ℕ → ℕ) (old : Parts) → old.lines ≡ record { budget = 2 ^ 40; taken = 0; held = []; ended = false } → is_on old.device ≡ false → old.device.pad ≡ kept_of no_keys → Going next old old
+begins next old lines off empty = record {
   budget = ap (λ (l : LinesView). l.budget) lines;
   most = omega (arith, ap (λ (l : LinesView). l.budget) lines, ap (λ (l : LinesView). l.taken) lines);
   taken = omega (arith, ap (λ (l : LinesView). l.taken) lines);
@@ -264,16 +305,12 @@ begins next old lines off = record {
 }
   where
     off_agrees : (stored : Stored) → Stands old.flash.words stored → Agrees old.device old.flash (starting stored old.flash.faults)
-    off_agrees stored stands = subst (λ (p : Phase). Agrees (record { phase = p }) old.flash (starting stored old.flash.faults)) (sym off)
-        record { on_is = refl; fits = tt; stand = record { words = stands; faults = refl } }
-
-raised_more : (count a b : ℕ) → raised (raised count a) b ≡ raised count (a + b)
-raised_more count a b = omega arith
+    off_agrees stored stands = record { on_is = sym off; pad_is = empty; stand = record { words = stands; faults = refl } }
 
 module _ (next : List ℕ → ℕ → ℕ) (first old new : Parts) (going : Going next first old) (came : List ℕ) (counts : Came came old.lines new.lines old.source new.source)
     (sink : old.sink.faults ≤ new.sink.faults) (flash : old.flash.faults ≤ new.flash.faults) where
   taken_by : new.source.taken ≡ raised first.source.taken new.lines.taken
-  taken_by = counts.taken ∙ ap (λ n. raised n (length came)) going.taken ∙ raised_more first.source.taken old.lines.taken (length came) ∙ ap (raised first.source.taken) (sym counts.counted)
+  taken_by = counts.taken ∙ ap (λ n. raised n (length came)) going.taken ∙ raised-raised first.source.taken old.lines.taken (length came) ∙ ap (raised first.source.taken) (sym counts.counted)
 
   still_unended : old.lines.ended ≡ false → new.lines.ended ≡ false → 0 < new.lines.taken → (length came ≡ 0) ⊎ (length came ≢ 0) → new.source.ended ≡ false
   still_unended was un some (inl none) = counts.same un none ∙ going.unended was (omega (arith, some, counts.counted, none))
@@ -341,8 +378,36 @@ module _ (next : List ℕ → ℕ → ℕ) (first old new : Parts) (going : Goin
   pub run_of : (result : Status) → Turns next (Some result) came old new → (bytes before : List ℕ) (stored : Stored) → first.source.left ≡ Some bytes → first.sink.written ≡ Some before → Stands first.flash.words stored
       → RunOf next result bytes before (starting stored first.flash.faults) new.source new.sink new.flash
   run_of result turns bytes before stored left written stands =
-      let ends = run_ends next bytes before (starting stored first.flash.faults) old new (going.so_far bytes before stored left written stands) came counts result turns in
-      record { taken = ends.0; rest = ends.1; split = ends.2; left = ends.3; ran = ends.4 }
+      let ends = run_ends next bytes before (starting stored first.flash.faults) old new (going.so_far bytes before stored left written stands) came counts told_now result turns in
+      let counts = rises_in next result new.source.ended ends.0 before (starting stored first.flash.faults) new.flash new.sink ends.4 in
+      record { taken = ends.0; rest = ends.1; split = ends.2; left = ends.3; ran = ends.4; counts = counts.0; rises = counts.1 }
+
+-- What is promised of a whole run, where it ends with this status.
+pub record Promised (next : List ℕ → ℕ → ℕ) (result : Status) (first new : Parts) : Type 0 where
+  pub usage : result ≢ status.Usage
+  pub later : NeverFalls first.source first.sink first.flash new.source new.sink new.flash
+  pub causes : Causes result first.source first.sink new.source new.sink
+  pub long : IsLong result first.source new.source
+  pub run : (bytes before : List ℕ) (stored : Stored) → first.source.left ≡ Some bytes → first.sink.written ≡ Some before → Stands first.flash.words stored
+      → RunOf next result bytes before (starting stored first.flash.faults) new.source new.sink new.flash
+
+not_usage : (next : List ℕ → ℕ → ℕ) (came : List ℕ) (old new : Parts) (result : Status) → Turns next (Some result) came old new → result ≢ status.Usage
+not_usage next came old new status.Usage turns = absurd turns
+not_usage next came old new _ turns = λ e. cc
+
+pub ends : (next : List ℕ → ℕ → ℕ) (first old new : Parts) (result : Status) → Going next first old → Turned next (Some result) old new → old.sink.faults ≤ new.sink.faults → old.flash.faults ≤ new.flash.faults
+    → Promised next result first new
+ends next first old new result going turned sink flash = record {
+  usage = not_usage next turned.came old new result turned.turns;
+  later = record {
+    source_count = omega (arith, going.source, turned.counts.later);
+    sink_count = omega (arith, going.sink, sink);
+    flash_count = omega (arith, going.flash, flash);
+  };
+  causes = causes next first old new going turned.came turned.counts sink flash result turned.turns;
+  long = is_long next first old new going turned.came turned.counts sink flash result turned.turns;
+  run = run_of next first old new going turned.came turned.counts sink flash result turned.turns;
+}
 
 -- a turn that took a line brings the run nearer to its end
 nearer_line : (old new : LinesView) (came line : List ℕ) → new.taken ≡ old.taken + length came → new.budget ≡ old.budget → new.taken ≤ new.budget → IsLine (old.held ++ came) line new
@@ -360,14 +425,14 @@ pub nearer : (next : List ℕ → ℕ → ℕ) (old new : Parts) (came : List �
     → new.lines.budget - new.lines.taken + length new.lines.held < old.lines.budget - old.lines.taken + length old.lines.held
 nearer next old new came counts turns = nearer_line old.lines new.lines came turns.line counts.counted counts.budget counts.most turns.is_line
 
--- a device that isn't on is off
-pub off_of : (device : Device) → is_on device ≡ false → device.phase ≡ Off
-off_of device off = by_phase device.phase off
-  where
-    by_phase : (phase : Phase) → is_up phase ≡ false → phase ≡ Off
-    by_phase Off e = refl
-    by_phase Unmade e = cc
-    by_phase (Up running) e = cc
+-- a device that isn't on found nothing that its flash would have to back
+unfound : (found : Option Recovered) (words : List ℕ) → is_some found ≡ false → IfSome found (λ found. recover words ≡ found)
+unfound None words off = tt
+unfound (Some found) words off = cc
+
+backed : (device : Device) (words : Option (List ℕ)) → is_on device ≡ false → IfSome words (Backs device.phase)
+backed device None off = tt
+backed device (Some words) off = unfound (found_by device.phase) words off
 
 pub off_holds : (device : Device) (flash : FlashView) → is_on device ≡ false → Holds device flash
-off_holds device flash off = subst (λ (p : Phase). Holds (record { phase = p }) flash) (sym (off_of device off)) record { up = λ e. cc; words = off_backed flash.words }
+off_holds device flash off = record { up = λ on. absurd (let both : true ≡ false = sym on ∙ off in cc); words = backed device flash.words off }

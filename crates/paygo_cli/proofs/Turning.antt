@@ -6,9 +6,16 @@ use Rattle.std.proofs.lemmas.Bool.Decides.{nat_tests}
 use Rattle.paygo_spec.specs.Faults.{HasCause}
 use Rattle.paygo_spec.specs.Machine.{Say, steps_of_line}
 use Rattle.paygo_outside.specs.declared.sink.WriteFault.{WriteFault}
-use Rattle.bench_run.specs.Reader.{Came, IsLine}
+use Rattle.paygo_spec.specs.Flash.{FlashView}
+use Rattle.paygo_spec.specs.Streams.{SourceView, SinkView}
+use Rattle.device_core.specs.declared.device.Device.{Device}
+use Rattle.bench_run.specs.Reader.{LinesView, Came, IsLine}
 use Rattle.bench_run.specs.Bench.{Works}
 use Rattle.paygo_cli.specs.Turn.{Parts, Turned, ended_by}
+
+-- what is seen of these parts of a run
+abbrev pub parts : LinesView → Device → SourceView → SinkView → FlashView → Parts
+parts lines device source sink flash = record { lines = lines; device = device; source = source; sink = sink; flash = flash }
 
 -- a line was taken, and the run goes on or ends by what became of it
 pub took : (next : List ℕ → ℕ → ℕ) (outcome : Result (Unit {0}) WriteFault) (came line : List ℕ) (old new : Parts) → Came came old.lines new.lines old.source new.source

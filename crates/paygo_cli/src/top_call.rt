@@ -76,16 +76,18 @@ fn device<M: Mixer, S: Source, K: Sink, F: Flash>(
 }
 
 /// Runs the program by its words: `device FLASH` takes the lines of the source to a device over the flash, and writes
-/// its answers to the sink, each before the next line is taken. The device is off at first. It takes no memory.
+/// its answers to the sink, each before the next event happens or the next line is taken. The device is off at first. It
+/// takes no memory.
 ///
 /// - `Usage` exactly where the words are no form that the program knows. Nothing is read or written then.
 /// - `Ok` only where the source has told its end; every line was answered.
 /// - `Read` only where the source's count of faults rose, or stands at 2^64 - 1. Every whole line was answered.
-/// - `Write` only where the sink's count of faults rose, or stands at 2^64 - 1. The lines were answered up to one whose
-///   answer was cut; each earlier answer was written whole.
+/// - `Write` only where the sink's count of faults rose, or stands at 2^64 - 1. The steps of the lines were answered up to
+///   one whose answer was cut, and no later one was taken; each earlier answer was written whole.
 /// - `Long` exactly where 2^40 bytes were taken, the source hasn't told its end, and every whole line was answered.
 ///
-/// Where no count of faults rises, the status is `Ok` or `Long`, and no answer is `down`.
+/// Where no count of faults rises, the status is `Ok` or `Long`, and no answer is `down`. Each `down` has a rise of the
+/// flash's count of its own.
 pub fn run<M: Mixer, S: Source, K: Sink, F: Flash>(
     _alloc: Global,
     words: &[&str],

@@ -5,3 +5,4 @@ pub mod Clocks
 pub mod Snapshots
 pub mod Entries
 pub mod Accepts
+pub mod Leasts

@@ -1,5 +1,5 @@
 -- What a device makes of a token that is typed in. A customer who types a token twice, or types an old one again, is told
--- so and loses nothing; only digits that are no token of the device count as a failure.
+-- so and loses nothing; only digits that are the token of no count up to the reach count as a failure.
 use Rattle.std.specs.Prelude.{◌≡◌, ℕ, ◌+◌, ◌<◌, ◌≤◌, Bool, ◌&&◌, ◌==◌, Option, Some, None, List}
 use Rattle.paygo_spec.specs.declared.Entry.{Entry}
 use Rattle.paygo_spec.specs.declared.Found.{Found}

@@ -1,45 +1,66 @@
--- How a device stands on its flash: a head of twelve words in bank 0, and behind it one word for each entry of the
--- history, in the order in which they came.
-use Rattle.std.specs.Prelude.{◌≡◌, ℕ, ◌+◌, ◌-◌, ◌*◌, ◌/◌, ◌%◌, ◌^◌, ◌<◌, ◌≤◌, ◌==◌, nat_le, List, [], ◌∷◌, length, take, drop, slice_index, if◌then◌else◌}
+-- How a device stands on its flash. Each of the two banks has a head of twelve words and behind it room for 500 entries
+-- of the history, one word each, in the order in which they came. The bank with the greater number is in use; it began
+-- with a snapshot of all that came before.
+use Rattle.std.specs.Prelude.{◌≡◌, ℕ, ◌+◌, ◌-◌, ◌*◌, ◌/◌, ◌%◌, ◌^◌, ◌⊎◌, Bool, true, false, ◌==◌, nat_le, List, take, drop, if◌then◌else◌}
 use Rattle.std.specs.Int.{w32, from_be_bytes}
 use Rattle.paygo_spec.specs.declared.Config.{Config}
-use Rattle.paygo_spec.specs.declared.Entry.{Entry}
-use Rattle.paygo_spec.specs.Flash.{erased_word}
-use Rattle.paygo_spec.specs.History.{Summary, fresh}
-use Rattle.paygo_spec.specs.EntryNumber.{number_of}
-use Rattle.paygo_spec.specs.Rail.{railed}
+use Rattle.paygo_spec.specs.Digits.{digit_count}
+use Rattle.paygo_spec.specs.History.{Summary}
 
 -- Four bytes of the key, the first the most significant.
 abbrev pub key_number : List ℕ → ℕ → ℕ
 key_number key i = from_be_bytes w32 (take 4 (drop (4 * i) key))
 
--- The number at each place of the head: the bank's number, the key, the starting code, the format (1) with the
--- form (9 digits) and the divider, and where the history starts.
+-- The number at each place of a head: the bank's number, the key, the starting code, the format (1) with the form and
+-- the divider, and the summary with which the bank begins: last count and used bits, time left in two halves, free and
+-- failures, and the block.
 abbrev pub head_number : ℕ → Config → Summary → ℕ → ℕ
 head_number number config start place =
     if place == 0 then number
     else if nat_le place 4 then key_number config.key (place - 1)
     else if place == 5 then config.start
-    else if place == 6 then 0x01000900 + config.divider
+    else if place == 6 then 2 ^ 24 + digit_count config.form * 2 ^ 8 + config.divider
     else if place == 7 then start.last * 2 ^ 16 + start.bits
     else if place == 8 then start.left / 2 ^ 32
     else if place == 9 then start.left % 2 ^ 32
     else if place == 10 then (if start.free then 2 ^ 8 else 0) + start.fails
     else start.block
 
--- Each entry's word stands at its place: the place 12 is that of the oldest.
-abbrev pub HasEntries : List ℕ → List Entry → Type 0
-HasEntries words [] = Unit {0}
-HasEntries words (e ∷ entries) = (slice_index words (12 + length entries) ≡ railed (number_of e)) × HasEntries words entries
+-- Where the next entry goes: the number of the bank in use, and the place in it, from 12 to 512. At 512 the bank is full,
+-- and the next entry goes to the other bank.
+pub record Position : Type 0 where
+  pub number : ℕ
+  pub place : ℕ
 
--- Bank 0 holds a device with this configuration, which began as a fresh one and has had these entries since.
-pub record IsLaidOut (config : Config) (entries : List Entry) (words : List ℕ) : Type 0 where
-  pub fits : 12 + length entries ≤ 512
-  pub head : (place : ℕ) → place < 12 → slice_index words place ≡ railed (head_number 1 config fresh place)
-  pub written : HasEntries words entries
-  pub erased : (place : ℕ) → 12 + length entries ≤ place → place < 512 → slice_index words place ≡ erased_word
+-- The position of a new device.
+abbrev pub first_position : Position
+first_position = record { number = 1; place = 12 }
 
--- Both headers, the first words of the banks, are erased: no device was made on this flash.
-pub record IsBlank (words : List ℕ) : Type 0 where
-  pub first : slice_index words 0 ≡ erased_word
-  pub second : slice_index words 512 ≡ erased_word
+-- The number of the last bank: in the life of a device each bank is erased 50,000 times, but for erases that are done
+-- again after a power cut.
+abbrev pub last_bank : ℕ
+last_bank = 100000
+
+-- How many more entries the flash has room for: the places that are free in this bank, and 500 in each later one.
+abbrev pub room : Position → ℕ
+room at = (512 - at.place) + (last_bank - at.number) * 500
+
+-- The position one entry on. From a full bank it is that behind the first entry of the next one.
+abbrev pub further : Position → Position
+further at =
+    if at.place == 512 then record { number = at.number + 1; place = 13 } else record { number = at.number; place = at.place + 1 }
+
+-- The position in a next bank that has no entry yet.
+abbrev pub turned : Position → Position
+turned at = record { number = at.number + 1; place = 12 }
+
+-- How many calls of the flash an entry takes that is added at this position: one word, or the next bank and one word.
+abbrev pub calls_of_entry : Position → ℕ
+calls_of_entry at = if room at == 0 then 0 else if at.place == 512 then 14 else 1
+
+-- What becomes of the position where the power is cut while an entry is added: the entry counts, and the position is one
+-- entry on. Or it doesn't count, and the position is as before, or one entry on with a torn word passed over, or, from
+-- a full bank, that of the next bank without an entry.
+abbrev pub Leaves : Position → Bool → Position → Type 0
+Leaves at true now = now ≡ further at
+Leaves at false now = (now ≡ at) ⊎ ((now ≡ further at) ⊎ ((at.place ≡ 512) × (now ≡ turned at)))

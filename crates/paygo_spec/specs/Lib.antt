@@ -14,9 +14,12 @@ pub mod Snapshot
 pub mod EntryNumber
 pub mod Found
 pub mod Pad
+pub mod Typed
 pub mod Layout
+pub mod Calls
 pub mod Lines
 pub mod Words
+pub mod Recovery
 pub mod Machine
 pub mod Text
 pub mod Ran

@@ -1,23 +1,28 @@
--- The device as a machine: what may be answered to each step, and what stands then. Its one free choice is that the
--- flash may fail in an event that uses it, which the flash's count of faults shows.
-use Rattle.std.specs.Prelude.{◌≡◌, ◌≢◌, ℕ, ◌+◌, ◌-◌, ◌^◌, ◌<◌, ◌≤◌, Bool, true, false, ◌==◌, ◌&&◌, nat_lt, nat_le, min, List, [], ◌∷◌, ◌++◌, length, take, drop, codes, Option, Some, None, IsSome, unwrap_or, if◌then◌else◌}
+-- The device as a machine: what may be answered to each step, and what stands then. Its free choices are that the flash
+-- may fail in an event that uses it, which the flash's count of faults shows, and whether an event that was cut off so
+-- counts, and at which position the next entry goes.
+use Rattle.std.specs.Prelude.{◌≡◌, ℕ, ◌+◌, ◌-◌, ◌^◌, ◌<◌, ◌≤◌, ◌⊎◌, Bool, true, false, ◌==◌, ◌&&◌, nat_lt, nat_le, min, List, [], ◌∷◌, ◌++◌, length, take, drop, codes, Option, Some, None, unwrap_or, map, if◌then◌else◌}
 use Rattle.std.specs.Option.{option_map}
 use Rattle.std.specs.Fmt.{decimal}
 use Rattle.std.specs.Str.{bytes_eq}
+use Rattle.paygo_spec.specs.declared.TheConstants.{LAST}
 use Rattle.paygo_spec.specs.declared.Config.{Config}
 use Rattle.paygo_spec.specs.declared.Entry.{Entry}
-use Rattle.paygo_spec.specs.declared.Entry.TheVariants.{Accept, Elapsed}
+use Rattle.paygo_spec.specs.declared.Entry.TheVariants.{Accept, Bad, Elapsed}
 use Rattle.paygo_spec.specs.declared.Event.{Event}
-use Rattle.paygo_spec.specs.declared.Event.TheVariants.{Power, Make, Enter, Tick}
+use Rattle.paygo_spec.specs.declared.Event.TheVariants.{Power, Make, Key, Tick, Show}
 use Rattle.paygo_spec.specs.declared.Reply.{Reply}
-use Rattle.paygo_spec.specs.declared.Reply.TheVariants.{Set, Added, Invalid, Worn, Down, Up, Ticked, Unmade, Made, Unbuilt}
+use Rattle.paygo_spec.specs.declared.Reply.TheVariants as reply_is
 use Rattle.paygo_spec.specs.Faults.{Rose}
-use Rattle.paygo_spec.specs.Chain.{token_at, value_in}
-use Rattle.paygo_spec.specs.Least.{least}
-use Rattle.paygo_spec.specs.History.{fresh, top, is_odd}
-use Rattle.paygo_spec.specs.Clock.{ClockView, clock_after, clock_of, unit_of}
-use Rattle.paygo_spec.specs.Layout.{IsLaidOut, IsBlank}
-use Rattle.paygo_spec.specs.Words.{digits_from, divides_day, event_in}
+use Rattle.paygo_spec.specs.History.{Summary, fresh, top, is_odd}
+use Rattle.paygo_spec.specs.Clock.{ClockView, clock_of, unit_of}
+use Rattle.paygo_spec.specs.Lawful.{Lawful}
+use Rattle.paygo_spec.specs.Snapshot.{snapshot}
+use Rattle.paygo_spec.specs.Pad.{Keys, IsKey, no_keys, after_key, after_seconds, held_of}
+use Rattle.paygo_spec.specs.Typed.{Typed, WrongLength, WrongDigit, Blocked, Overtaken, Makes, typed}
+use Rattle.paygo_spec.specs.Layout.{Position, first_position, room, further, Leaves, calls_of_entry}
+use Rattle.paygo_spec.specs.Recovery.{Recovered, Unmade, Damaged, Made, recover}
+use Rattle.paygo_spec.specs.Words.{divides_day, events_in}
 
 -- One step of a run: a text is said, or an event happens to the device.
 pub data Step : Type 0 where
@@ -33,160 +38,241 @@ pub data Answer : Type 0 where
 abbrev pub trimmed : List ℕ → List ℕ
 trimmed line = if bytes_eq (drop (length line - 1) line) (13 ∷ []) then take (length line - 1) line else line
 
--- The step of a line's text. A line of a form that isn't built yet is answered so.
+-- The steps of a line of a device: the events that it asks for, or a refusal where it has no form of such a line.
+abbrev pub steps_of_device_line : List ℕ → List Step
+steps_of_device_line line = unwrap_or (option_map (λ events. map Act events) (events_in line)) (Say (codes "unread") ∷ [])
+
+-- The steps of a line's text. A line that begins with `{` is one of a ledger, which isn't here.
 abbrev pub steps_of_text : List ℕ → List Step
 steps_of_text [] = []
-steps_of_text (c ∷ cs) = unwrap_or (option_map (λ event. Act event ∷ []) (event_in (c ∷ cs))) (Say (codes "unbuilt") ∷ [])
+steps_of_text (c ∷ cs) = if c == 123 then Say (codes "no ledger here") ∷ [] else steps_of_device_line (c ∷ cs)
 
 -- The steps of a line: none for an empty one, and one answer for one above 4,096 bytes.
 abbrev pub steps_of_line : List ℕ → List Step
 steps_of_line line = if nat_lt 4096 (length line) then Say (codes "long " ++ decimal (length line)) ∷ [] else steps_of_text (trimmed line)
 
+-- The history of a device that was made: its configuration, where the history starts, the entries since then, the newest
+-- first, and the position of the next entry on the flash.
+pub record History : Type 0 where
+  pub config : Config
+  pub start : Summary
+  pub entries : List Entry
+  pub at : Position
+
+-- The history of a device that was just made with this configuration.
+abbrev pub new_device : Config → History
+new_device config = record { config = config; start = fresh; entries = []; at = first_position }
+
+-- A history with these entries in place of its own, and the next one at this position.
+abbrev pub gone_on : History → List Entry → Position → History
+gone_on history entries at = record { config = history.config; start = history.start; entries = entries; at = at }
+
 -- What a flash stands for.
 pub data Stored : Type 0 where
   -- no device was made on it
   Blank : Stored
-  -- a device was made with this configuration and has had these entries since, the newest first
-  Journal : (config : Config) (entries : List Entry) → Stored
-  -- something else
-  Other : Stored
+  -- it is damaged at this word
+  Broken : (word : ℕ) → Stored
+  -- a device was made, and has this history
+  Journal : (history : History) → Stored
+
+-- The seconds of one unit of time of a device.
+abbrev pub unit_for : History → ℕ
+unit_for history = unit_of history.config.divider
+
+-- What recovery finds is what the flash stands for: of a device that was made, the summary of a history that it can have.
+abbrev pub StandsAs : Recovered → Stored → Type 0
+StandsAs Unmade Blank = Unit {0}
+StandsAs (Damaged word) (Broken place) = word ≡ place
+StandsAs (Made journal) (Journal history) =
+    (journal.config ≡ history.config) × (journal.at ≡ history.at)
+    × (journal.summary ≡ snapshot (unit_for history) history.start history.entries)
+    × Lawful LAST (unit_for history) history.start history.entries
+StandsAs _ _ = ⊥
 
 -- The words are told, and stand for this.
 abbrev pub Stands : Option (List ℕ) → Stored → Type 0
 Stands None stored = ⊥
-Stands (Some words) Blank = IsBlank words
-Stands (Some words) (Journal config entries) = IsLaidOut config entries words
-Stands (Some words) Other = IsBlank words → ⊥
+Stands (Some words) stored = StandsAs (recover words) stored
 
 -- A configuration is in range: a starting code below 10^9, and a divisor of a day's seconds from 1 on.
 pub record IsConfig (config : Config) : Type 0 where
   pub start : config.start < 10 ^ 9
   pub divider : divides_day config.divider ≡ true
 
--- An event is one that may be asked for: a configuration in range, nine digits, at most 999,999,999 seconds.
+-- An event is one that may be asked for: a configuration in range, a key of the pad, at most 999,999,999 seconds.
 abbrev pub IsEvent : Event → Type 0
 IsEvent Power = Unit {0}
 IsEvent (Make config) = IsConfig config
-IsEvent (Enter digits) = IsSome (digits_from 0 digits)
+IsEvent (Key key) = IsKey key
 IsEvent (Tick seconds) = seconds ≤ 999999999
+IsEvent Show = Unit {0}
 
--- Whether the device is on, what its flash stands for, and the flash's count of faults.
+-- Whether the device is on, what its flash stands for, the keys that its pad holds, and the flash's count of faults.
 pub record State : Type 0 where
   pub on : Bool
   pub stored : Stored
+  pub keys : Keys
   pub faults : ℕ
 
--- The greatest count.
-abbrev pub last_count : ℕ
-last_count = 4095
+-- What a device shows after these entries.
+abbrev pub clock_at : History → List Entry → ClockView
+clock_at history entries = clock_of (unit_for history) history.start entries
 
--- A count above the last one whose token this is.
-abbrev pub is_new_match : (ℕ → ℕ) → ℕ → ℕ → ℕ → ℕ → ℕ → Bool
-is_new_match next start value token last count = nat_lt last count && (token_at next start value count == token)
-
--- The entry of a token: the least count above the last one, and no more than 64 above it, whose token it is, with a
--- value up to 995.
-abbrev pub accepted : (ℕ → ℕ) → ℕ → ℕ → ℕ → Option Entry
-accepted next start last token =
-    let value = value_in start token in
-    if nat_le value 995
-    then option_map (λ count. Accept count value) (least (is_new_match next start value token last) (min last_count (last + 64) + 1))
-    else None
-
--- The token that nine digits say.
-abbrev pub token_of : List ℕ → ℕ
-token_of digits = unwrap_or (digits_from 0 digits) 0
-
--- The clock after these entries, on a device that began as a fresh one.
-abbrev pub clock_at : Config → List Entry → ClockView
-clock_at config entries = clock_of (unit_of config.divider) fresh entries
-
--- Whether two clocks show the same.
+-- Whether two clocks show the same time left and block.
 abbrev pub shows_same : ClockView → ClockView → Bool
 shows_same now before = (now.left == before.left) && (now.block == before.block)
 
--- The entry that seconds make: none where the clock stays what it is.
-abbrev pub elapsed : ℕ → ClockView → ℕ → Option Entry
-elapsed unit clock seconds = if shows_same (clock_after unit (Elapsed seconds) clock) clock then None else Some (Elapsed seconds)
+-- The reply to an accepted token of an odd count.
+abbrev pub reply_to_set : ℕ → ℕ → ClockView → Reply
+reply_to_set count value clock =
+    if nat_le value 995 then reply_is.Set count value clock.left
+    else if value == 998 then reply_is.Free count
+    else reply_is.Synced count
 
--- The entry that an event adds to the history, if it adds one.
-abbrev pub entry_of : (List ℕ → ℕ → ℕ) → Config → List Entry → Event → Option Entry
-entry_of next config entries (Enter digits) = accepted (next config.key) config.start (top fresh entries) (token_of digits)
-entry_of next config entries (Tick seconds) = elapsed (unit_of config.divider) (clock_at config entries) seconds
-entry_of next config entries _ = None
+-- The reply to an entry that was added to the history, by the clock after it.
+abbrev pub reply_to_entry : Entry → ClockView → Reply
+reply_to_entry (Accept count value) clock = if is_odd count then reply_to_set count value clock else reply_is.Added count value clock.left clock.free
+reply_to_entry Bad clock = reply_is.Invalid clock.block
+reply_to_entry (Elapsed seconds) clock = reply_is.Ticked clock.left clock.free clock.block
 
--- The reply to an accepted token, by its count and value and the clock after it.
-abbrev pub reply_to_token : ℕ → ℕ → ClockView → Reply
-reply_to_token count value clock = if is_odd count then Set count value clock.left else Added count value clock.left clock.free
+-- The reply when the power comes.
+abbrev pub reply_to_power : Stored → Reply
+reply_to_power Blank = reply_is.Unmade
+reply_to_power (Broken word) = reply_is.Damaged word
+reply_to_power (Journal history) =
+    let clock = clock_at history history.entries in
+    reply_is.Up (top history.start history.entries) clock.left clock.free clock.block
 
--- The reply to an event that added this entry or none, by the clock after it.
-abbrev pub reply_of : ClockView → Event → Option Entry → Reply
-reply_of clock (Tick seconds) entry = Ticked clock.left clock.free clock.block
-reply_of clock event (Some (Accept count value)) = reply_to_token count value clock
-reply_of clock event _ = Invalid 0
+-- What a device that was made shows.
+abbrev pub shown : History → Keys → Reply
+shown history keys =
+    let clock = clock_at history history.entries in
+    reply_is.Shown (top history.start history.entries) clock.left clock.free clock.fails clock.block (held_of keys) (room history.at)
 
--- How many entries bank 0 has room for.
-abbrev pub most_entries : ℕ
-most_entries = 500
+-- What an event comes to on a device that was made.
+pub data Effect : Type 0 where
+  -- it is answered, or isn't, and the history goes on with these entries without a word of the flash
+  Answers : (reply : Option Reply) (entries : List Entry) → Effect
+  -- it adds this entry to the history, which takes a word of the flash
+  Adds : (entry : Entry) → Effect
 
--- An entry was programmed, or refused with nothing changed because there is no room.
-abbrev pub Changes : Config → List Entry → Event → Option Entry → Reply → Stored → Type 0
-Changes config entries event None reply new = (reply ≡ reply_of (clock_at config entries) event None) × (new ≡ Journal config entries)
-Changes config entries event (Some entry) Worn new = (most_entries ≤ length entries) × (new ≡ Journal config entries)
-Changes config entries event (Some entry) reply new =
-    (length entries < most_entries) × (reply ≡ reply_of (clock_at config (entry ∷ entries)) event (Some entry)) × (new ≡ Journal config (entry ∷ entries))
+-- What an entry at the keypad comes to.
+abbrev pub effect_of_typed : History → Typed → Effect
+effect_of_typed history (WrongLength n) = Answers (Some (reply_is.Length (min n 99))) history.entries
+effect_of_typed history (WrongDigit place) = Answers (Some (reply_is.Digits place)) history.entries
+effect_of_typed history (Blocked block) = Answers (Some (reply_is.Blocked block)) history.entries
+effect_of_typed history Overtaken = Answers (Some reply_is.Old) history.entries
+effect_of_typed history (Makes entry clock) = Adds entry
 
--- What a device that is on answers to an event but Power, by what its flash stands for, and what it stands for then.
-abbrev pub Replies : (List ℕ → ℕ → ℕ) → Stored → Event → Reply → Stored → Type 0
-Replies next Blank (Make config) reply new = (reply ≡ Up 0 0 false 0) × (new ≡ Journal config [])
-Replies next Blank (Enter digits) reply new = (reply ≡ Unmade) × (new ≡ Blank)
-Replies next Blank (Tick seconds) reply new = (reply ≡ Unmade) × (new ≡ Blank)
-Replies next (Journal config entries) (Make _) reply new = (reply ≡ Made 1) × (new ≡ Journal config entries)
-Replies next (Journal config entries) (Enter digits) reply new = Changes config entries (Enter digits) (entry_of next config entries (Enter digits)) reply new
-Replies next (Journal config entries) (Tick seconds) reply new = Changes config entries (Tick seconds) (entry_of next config entries (Tick seconds)) reply new
-Replies next _ _ _ _ = ⊥
+-- What becomes of these digits on a device with this history.
+abbrev pub typed_on : (List ℕ → ℕ → ℕ) → History → List ℕ → Typed
+typed_on next history digits =
+    typed (next history.config.key) history.config.start LAST (unit_for history) history.config.form history.start history.entries digits
 
--- An event but Power that programs the flash, so that the flash may fail in it.
-abbrev pub Programs : (List ℕ → ℕ → ℕ) → Stored → Event → Type 0
-Programs next Blank (Make config) = Unit {0}
-Programs next (Journal config entries) event = IsSome (entry_of next config entries event) × (length entries < most_entries)
-Programs next _ _ = ⊥
+-- What seconds come to: where the clock shows the same after them, they cost no word of the flash.
+abbrev pub effect_of_seconds : History → ℕ → Effect
+effect_of_seconds history seconds =
+    let clock = clock_at history (Elapsed seconds ∷ history.entries) in
+    if shows_same clock (clock_at history history.entries)
+    then Answers (Some (reply_to_entry (Elapsed seconds) clock)) (Elapsed seconds ∷ history.entries)
+    else Adds (Elapsed seconds)
 
--- What the device answers when its power comes, and whether it is on then.
-abbrev pub Powers : Stored → Reply → Bool → Type 0
-Powers stored Unmade on = (stored ≡ Blank) × (on ≡ true)
-Powers stored Unbuilt on = (stored ≢ Blank) × (on ≡ false)
-Powers stored _ on = ⊥
+-- What an event but Power comes to on a device that was made. The key `#` hands the entry in.
+abbrev pub effect_of : (List ℕ → ℕ → ℕ) → History → Keys → Event → Effect
+effect_of next history keys (Make config) = Answers (Some (reply_is.Made history.at.number)) history.entries
+effect_of next history keys (Key key) =
+    if key == 35 then effect_of_typed history (typed_on next history keys.pressed) else Answers None history.entries
+effect_of next history keys (Tick seconds) = effect_of_seconds history seconds
+effect_of next history keys Show = Answers (Some (shown history keys)) history.entries
+effect_of next history keys _ = Answers None history.entries
 
--- It goes on to this, and the count of faults doesn't fall.
-pub record Goes (on : Bool) (stored : Stored) (old new : State) : Type 0 where
+-- An entry is added: there is no room for it, and nothing changes; or the flash failed, and the entry counts or not; or
+-- it is answered, and the flash stands for the history with it.
+abbrev pub MayAdd : History → Entry → Option Reply → Stored → Type 0
+MayAdd history entry (Some reply_is.Worn) new = (room history.at ≡ 0) × (new ≡ Journal history)
+MayAdd history entry (Some reply_is.Down) new =
+    (0 < room history.at)
+    × ((counted : Bool) × (at : Position) × Leaves history.at counted at
+    × (new ≡ Journal (gone_on history (if counted then entry ∷ history.entries else history.entries) at)))
+MayAdd history entry reply new =
+    (0 < room history.at)
+    × (reply ≡ Some (reply_to_entry entry (clock_at history (entry ∷ history.entries))))
+    × (new ≡ Journal (gone_on history (entry ∷ history.entries) (further history.at)))
+
+-- The reply to an event with this effect, and what the flash stands for then.
+abbrev pub Meets : History → Effect → Option Reply → Stored → Type 0
+Meets history (Answers answer entries) reply new = (reply ≡ answer) × (new ≡ Journal (gone_on history entries history.at))
+Meets history (Adds entry) reply new = MayAdd history entry reply new
+
+-- A device is made: it is up, or the flash failed, and stands for the new device or for what it stood for.
+abbrev pub MayMake : Config → Option Reply → Stored → Type 0
+MayMake config (Some reply_is.Down) new = (new ≡ Blank) ⊎ (new ≡ Journal (new_device config))
+MayMake config reply new = (reply ≡ Some (reply_is.Up 0 0 false 0)) × (new ≡ Journal (new_device config))
+
+-- The reply of a device that isn't made, or is damaged: of the keys it answers `#` alone.
+abbrev pub only : Event → Reply → Option Reply
+only (Key key) reply = if key == 35 then Some reply else None
+only event reply = Some reply
+
+-- What a device that is on replies to an event but Power, by what its flash stands for, and what that stands for then.
+abbrev pub Replies : (List ℕ → ℕ → ℕ) → Stored → Keys → Event → Option Reply → Stored → Type 0
+Replies next Blank keys (Make config) reply new = MayMake config reply new
+Replies next Blank keys event reply new = (reply ≡ only event reply_is.Unmade) × (new ≡ Blank)
+Replies next (Broken word) keys event reply new = (reply ≡ only event (reply_is.Damaged word)) × (new ≡ Broken word)
+Replies next (Journal history) keys event reply new = Meets history (effect_of next history keys event) reply new
+
+-- The pad of a device that isn't made, or is damaged, takes no key but `#`, which clears it.
+abbrev pub keys_after_key : Stored → ℕ → Keys → Keys
+keys_after_key (Journal history) key keys = after_key key keys
+keys_after_key stored key keys = if key == 35 then no_keys else keys
+
+-- The keys that the pad holds after an event: a tick is told to it.
+abbrev pub keys_after : Stored → Event → Keys → Keys
+keys_after stored Power keys = no_keys
+keys_after stored (Key key) keys = keys_after_key stored key keys
+keys_after stored (Tick seconds) keys = after_seconds seconds keys
+keys_after stored _ keys = keys
+
+-- It goes on, on or off and with these keys, and the count of faults doesn't fall.
+pub record Goes (on : Bool) (keys : Keys) (old new : State) : Type 0 where
   pub on_is : new.on ≡ on
-  pub stored_is : new.stored ≡ stored
+  pub keys_are : new.keys ≡ keys
   pub later : old.faults ≤ new.faults
 
--- The flash failed in this event: its count rose, and the device is off.
+-- The flash failed in this event: its count rose, and the device is off, with a cleared pad.
 pub record Falls (old new : State) : Type 0 where
   pub off : new.on ≡ false
+  pub cleared : new.keys ≡ no_keys
   pub later : old.faults ≤ new.faults
   pub rose : Rose old.faults new.faults
 
--- The device may answer this reply to the event, and go on to new.
-abbrev pub Acts : (List ℕ → ℕ → ℕ) → Event → Reply → State → State → Type 0
-Acts next Power Down old new = Falls old new × (new.stored ≡ old.stored)
-Acts next Power reply old new = Powers old.stored reply new.on × Goes new.on old.stored old new
-Acts next event Down old new = (old.on ≡ true) × Programs next old.stored event × Falls old new
-Acts next event reply old new = (old.on ≡ true) × Replies next old.stored event reply new.stored × Goes true new.stored old new
+-- How a device that is on goes on by its reply.
+abbrev pub GoesBy : Option Reply → Keys → State → State → Type 0
+GoesBy (Some reply_is.Down) keys old new = Falls old new
+GoesBy reply keys old new = Goes true keys old new
 
--- An event but Power, which a device that is off doesn't answer.
-abbrev pub NeedsPower : Event → Type 0
-NeedsPower Power = ⊥
-NeedsPower _ = Unit {0}
+-- A device that is on, or off, may reply this to an event but Power.
+abbrev pub ActsIf : Bool → (List ℕ → ℕ → ℕ) → Event → Option Reply → State → State → Type 0
+ActsIf true next event reply old new =
+    Replies next old.stored old.keys event reply new.stored × GoesBy reply (keys_after old.stored event old.keys) old new
+ActsIf false next event reply old new = (reply ≡ None) × (new.stored ≡ old.stored) × Goes false old.keys old new
+
+-- A device, on or off, may reply this when its power comes.
+abbrev pub Powers : Option Reply → State → State → Type 0
+Powers (Some reply_is.Down) old new = Falls old new
+Powers reply old new = (reply ≡ Some (reply_to_power old.stored)) × Goes true no_keys old new
+
+-- The device may answer this reply, or none, to the event, and go on to new.
+abbrev pub Acts : (List ℕ → ℕ → ℕ) → Event → Option Reply → State → State → Type 0
+Acts next Power reply old new = (new.stored ≡ old.stored) × Powers reply old new
+Acts next event reply old new = ActsIf old.on next event reply old new
 
 -- The machine may answer this to the step, and go on to new.
 abbrev pub Takes : (List ℕ → ℕ → ℕ) → Step → Option Answer → State → State → Type 0
 Takes next (Say text) (Some (Said said)) old new = (said ≡ text) × (new ≡ old)
-Takes next (Act event) (Some (Told reply)) old new = Acts next event reply old new
-Takes next (Act event) None old new = NeedsPower event × (old.on ≡ false) × Goes false old.stored old new
+Takes next (Act event) (Some (Told reply)) old new = Acts next event (Some reply) old new
+Takes next (Act event) None old new = Acts next event None old new
 Takes next _ _ old new = ⊥
 
 -- These steps may have these answers, one after another.
@@ -194,3 +280,25 @@ abbrev pub Run : (List ℕ → ℕ → ℕ) → State → List Step → List (Op
 Run next old [] [] new = new ≡ old
 Run next old (step ∷ steps) (answer ∷ answers) new = (mid : State) × Takes next step answer old mid × Run next mid steps answers new
 Run next old _ _ new = ⊥
+
+-- How many calls of the flash an event with this effect takes.
+abbrev pub calls_of_effect : Position → Effect → ℕ
+calls_of_effect at (Answers reply entries) = 0
+calls_of_effect at (Adds entry) = calls_of_entry at
+
+-- How many calls it takes until the power is up and the flash is read. On a damaged flash that isn't said.
+abbrev pub calls_of_power : Stored → Option ℕ
+calls_of_power Blank = Some 3
+calls_of_power (Broken word) = None
+calls_of_power (Journal history) = Some 514
+
+-- How many calls an event but Power takes on a device that is on.
+abbrev pub calls_on : (List ℕ → ℕ → ℕ) → Stored → Keys → Event → ℕ
+calls_on next Blank keys (Make config) = 15
+calls_on next (Journal history) keys event = calls_of_effect history.at (effect_of next history keys event)
+calls_on next _ keys event = 0
+
+-- How many calls of the flash an event makes in this state where none of them fails, if that is said.
+abbrev pub calls_of : (List ℕ → ℕ → ℕ) → State → Event → Option ℕ
+calls_of next state Power = calls_of_power state.stored
+calls_of next state event = if state.on then Some (calls_on next state.stored state.keys event) else Some 0

@@ -2,7 +2,7 @@
 use Rattle.std.specs.Prelude.{◌≡◌, ℕ, ◌+◌, ◌≤◌, ◌⊎◌, min, ◌==◌, ◌||◌, nat_le, List, [], ◌∷◌, ◌++◌, length, take, replicate, if◌then◌else◌}
 
 -- The digits pressed since the pad was last cleared, the first of them first, and the seconds of ticks since the last
--- key, or since the pad last cleared itself.
+-- key, or since the pad was last cleared.
 pub record Keys : Type 0 where
   pub pressed : List ℕ
   pub seconds : ℕ
@@ -33,8 +33,8 @@ abbrev pub held_of : Keys → ℕ
 held_of keys = min (length keys.pressed) 99
 
 -- The digits that an entry hands over: the first fifteen, and bytes 0 behind them where there are fewer.
-unfoldable pub entry_of : List ℕ → List ℕ
-entry_of pressed = take 15 (pressed ++ replicate 15 0)
+unfoldable pub handed_over : List ℕ → List ℕ
+handed_over pressed = take 15 (pressed ++ replicate 15 0)
 
 -- What a pad keeps: the digits and the length that it would hand over, and the seconds since the last key.
 pub record PadView : Type 0 where
@@ -44,4 +44,4 @@ pub record PadView : Type 0 where
 
 -- What a pad keeps of the keys that were pressed.
 abbrev pub kept_of : Keys → PadView
-kept_of keys = record { digits = entry_of keys.pressed; held = held_of keys; seconds = keys.seconds }
+kept_of keys = record { digits = handed_over keys.pressed; held = held_of keys; seconds = keys.seconds }

@@ -1,6 +1,6 @@
 -- Railed words: how a number of 32 bits stands in a word of 64 bits, so that a torn word shows. A word that was cut
 -- while it was written, or while its bank was erased, has more 1 bits than it should have, and then it is no railed
--- word, or it is the very word that was being written. So a device never reads a number that nobody wrote.
+-- word, or it is the very word that stood there or was being written. So a device never reads a number that nobody wrote.
 use Rattle.std.specs.Prelude.{◌≡◌, ℕ, ◌+◌, ◌-◌, ◌*◌, ◌/◌, ◌%◌, ◌^◌, ◌<◌, ◌⊎◌, Bool, ◌==◌, bit_or}
 use Rattle.std.specs.Int.{bit_at}
 

@@ -1,11 +1,12 @@
 -- What a run of the program over lines did: the answers, what stands then, and the bytes written.
-use Rattle.std.specs.Prelude.{◌≡◌, ℕ, ◌+◌, List, [], ◌∷◌, ◌++◌, length, take, false, Option, Some}
+use Rattle.std.specs.Prelude.{◌≡◌, ℕ, ◌+◌, List, [], ◌∷◌, ◌++◌, length, take, Bool, false, if◌then◌else◌, Option, Some}
 use Rattle.std.specs.List.{flat_map}
 use Rattle.paygo_spec.specs.declared.Status.{Status}
 use Rattle.paygo_spec.specs.declared.Status.TheVariants as status
 use Rattle.paygo_spec.specs.Flash.{FlashView}
 use Rattle.paygo_spec.specs.Streams.{SinkView}
 use Rattle.paygo_spec.specs.Lines.{whole_lines, all_lines}
+use Rattle.paygo_spec.specs.Pad.{no_keys}
 use Rattle.paygo_spec.specs.Machine.{Step, Answer, State, Stored, Stands, Run, steps_of_line}
 use Rattle.paygo_spec.specs.Text.{text}
 
@@ -13,9 +14,9 @@ use Rattle.paygo_spec.specs.Text.{text}
 abbrev pub steps_of : List (List ℕ) → List Step
 steps_of lines = flat_map steps_of_line lines
 
--- Before its first event a device is off.
+-- Before its first event a device is off, and nothing was typed.
 abbrev pub starting : Stored → ℕ → State
-starting stored faults = record { on = false; stored = stored; faults = faults }
+starting stored faults = record { on = false; stored = stored; keys = no_keys; faults = faults }
 
 -- The flash stands for what the machine says, and its count of faults is the machine's.
 pub record Stand (flash : FlashView) (state : State) : Type 0 where
@@ -40,12 +41,17 @@ pub record CutShort (next : List ℕ → ℕ → ℕ) (steps : List Step) (start
   pub more : ℕ
   pub written : sink.written ≡ Some (before ++ take (length (text earlier) + more) (text (earlier ++ last ∷ [])))
 
--- The steps that were answered, by the status of the run: those of all lines of the bytes taken at Ok, those of the
--- whole lines at Read and Long, and at Write the first of them, up to the one whose answer failed.
-abbrev pub Ran : (List ℕ → ℕ → ℕ) → Status → List ℕ → State → List ℕ → FlashView → SinkView → Type 0
-Ran next status.Ok taken start before flash sink = Answered next (steps_of (all_lines taken)) start before flash sink
-Ran next status.Read taken start before flash sink = Answered next (steps_of (whole_lines taken)) start before flash sink
-Ran next status.Long taken start before flash sink = Answered next (steps_of (whole_lines taken)) start before flash sink
-Ran next status.Write taken start before flash sink =
-    (steps : List Step) × (others : List Step) × (steps_of (all_lines taken) ≡ steps ++ others) × CutShort next steps start before flash sink
-Ran next status.Usage taken start before flash sink = ⊥
+-- The lines of the bytes taken. A last piece without its end is a line only where the source has told its end.
+abbrev pub lines_taken : Bool → List ℕ → List (List ℕ)
+lines_taken ended taken = if ended then all_lines taken else whole_lines taken
+
+-- The steps that were answered, by the status of the run and whether the source has told its end: those of all lines of the
+-- bytes taken at Ok, those of the whole lines at Read and Long, and at Write the first steps of the lines taken, up to the
+-- one whose answer failed.
+abbrev pub Ran : (List ℕ → ℕ → ℕ) → Status → Bool → List ℕ → State → List ℕ → FlashView → SinkView → Type 0
+Ran next status.Ok ended taken start before flash sink = Answered next (steps_of (all_lines taken)) start before flash sink
+Ran next status.Read ended taken start before flash sink = Answered next (steps_of (whole_lines taken)) start before flash sink
+Ran next status.Long ended taken start before flash sink = Answered next (steps_of (whole_lines taken)) start before flash sink
+Ran next status.Write ended taken start before flash sink =
+    (steps : List Step) × (others : List Step) × (steps_of (lines_taken ended taken) ≡ steps ++ others) × CutShort next steps start before flash sink
+Ran next status.Usage ended taken start before flash sink = ⊥

@@ -8,14 +8,21 @@ ghost use Rattle.paygo_spec.specs.Digits.{digit_count, form_of};
 /// The greatest count of a token. The counts of a chain run from 0 to this one.
 pub const LAST: u16 = 4095;
 
-/// What a device keeps of its past: one entry for each event that changed its state.
+/// The greatest time left, in seconds: more than 30,000 years.
+pub const MOST_LEFT: u64 = 1_000_000_000_000;
+
+/// How many seconds a day has.
+pub const DAY: u32 = 86_400;
+
+/// What a device's history is made of: one entry for each event that changed its state, and one for each tick. Of ticks
+/// that changed nothing the flash keeps no entry.
 #[derive(Clone, Copy, Debug, PartialEq, Eq)]
 pub enum Entry {
     /// A token was accepted: its count, from 1 to 4,095, and its value, from 0 to 999.
     Accept { count: u16, value: u16 },
     /// A typed token was invalid.
     Bad,
-    /// So many seconds passed, from 1 to 999,999,999.
+    /// So many seconds passed: at most 999,999,999, and on the flash at least 1.
     Elapsed { seconds: u32 },
 }
 
@@ -63,6 +70,8 @@ pub struct Config {
     pub start: u32,
     /// How many units of time make a day: from 1 to 255, a divisor of 86,400.
     pub divider: u8,
+    /// The form in which its customer types tokens.
+    pub form: Form,
 }
 
 /// What may happen to a device.
@@ -72,10 +81,12 @@ pub enum Event {
     Power,
     /// The device is made, with this configuration.
     Make(Config),
-    /// Nine digits are typed, each a byte from `0` to `9`, and handed in.
-    Enter { digits: [u8; 9] },
+    /// A key of the pad is pressed: a byte from `0` to `9`, `*` or `#`.
+    Key(u8),
     /// So many seconds pass, at most 999,999,999.
     Tick(u32),
+    /// The device is asked what it shows.
+    Show,
 }
 
 /// What a device answers to an event. Time left and blocks are in seconds.
@@ -94,13 +105,39 @@ pub enum Reply {
         left: u64,
         free: bool,
     },
-    /// The digits are no token that the device takes. Entries are blocked for so long.
+    /// A disable token was accepted: the device is paid off, and free from now on.
+    Free {
+        count: u16,
+    },
+    /// A sync token was accepted: it only moves the last count.
+    Synced {
+        count: u16,
+    },
+    /// The token is one of the device's own chain that gives nothing: it was used or overtaken, or it is that of count 0, or
+    /// its value is none that its count takes. Nothing changed but the pad, which is cleared.
+    Old,
+    /// The digits are the token of no count in reach. Entries are blocked for so long.
     Invalid {
         block: u32,
     },
-    /// The flash has no place for one more entry. The event wasn't taken.
+    /// Entries are blocked for so long. Nothing changed but the pad, which is cleared.
+    Blocked {
+        block: u32,
+    },
+    /// The entry has so many digits, a number that stops at 99, and the form has another. Nothing changed but the pad,
+    /// which is cleared.
+    Length {
+        n: u8,
+    },
+    /// At this place, counted from 1, stands the first digit of the entry that isn't one of the form. Nothing changed but
+    /// the pad, which is cleared.
+    Digits {
+        place: u8,
+    },
+    /// The flash has no room for one more entry. The event wasn't taken.
     Worn,
-    /// The flash failed. The device is off until its power comes back.
+    /// The flash failed. The device is off until its power comes back, and the event counts wholly or not at all, which
+    /// that shows.
     Down,
     /// The device is up: its last count, its time left, whether it is free, and its block.
     Up {
@@ -117,12 +154,25 @@ pub enum Reply {
     },
     /// The device hasn't been made yet.
     Unmade,
-    /// The device was made before: the number of its newest bank.
+    /// The device was made before: the number of the bank in use.
     Made {
         number: u32,
     },
-    /// The flash holds what this program doesn't read yet. The device is off.
-    Unbuilt,
+    /// The flash is damaged, as its word at this place, from 0 to 1,023, shows.
+    Damaged {
+        place: u16,
+    },
+    /// What the device shows: its last count, its time left, whether it is free, its failures, its block, how many
+    /// digits its pad holds, and how many more entries its flash has room for.
+    Shown {
+        count: u16,
+        left: u64,
+        free: bool,
+        fails: u8,
+        block: u32,
+        held: u8,
+        room: u64,
+    },
 }
 
 /// What a device makes of a token that is typed in.
@@ -133,7 +183,7 @@ pub enum Found {
     /// It is a token of the device's own chain, and gives nothing: it was used or overtaken, or it is that of count 0,
     /// or its value is none that its count takes. The least count whose token it is, from 0 to 4,095.
     Old { count: u16 },
-    /// It is the token of no count from 0 to the greatest one that the device looks at.
+    /// It is the token of no count from 0 to the reach, the greatest count that the device takes next.
     Invalid,
 }
 
@@ -148,6 +198,6 @@ pub enum Status {
     Read,
     /// The output failed.
     Write,
-    /// The input is longer than 2^40 bytes.
+    /// 2^40 bytes of the input were taken, and it hasn't told its end.
     Long,
 }

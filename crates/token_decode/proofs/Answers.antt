@@ -10,7 +10,7 @@ use Rattle.paygo_spec.specs.Snapshot.{snapshot}
 use Rattle.paygo_spec.proofs.Windows.{same_reach}
 use Rattle.paygo_spec.proofs.Snapshots.{snapshot_stands}
 use Rattle.paygo_spec.proofs.Entries.{valid_same}
-use Rattle.token_chain.proofs.Least.{least_same}
+use Rattle.paygo_spec.proofs.Leasts.{least_same}
 
 -- two tests of what is valid that agree give one answer
 pub answer_same : (matches valid other : ℕ → Bool) (value reach : ℕ) → ((m : ℕ) → valid m ≡ other m) → answer matches valid value reach ≡ answer matches other value reach

@@ -6,7 +6,7 @@ use Rattle.paygo_spec.specs.declared.Found.{Found}
 use Rattle.paygo_spec.specs.Clock.{clock_of}
 use Rattle.paygo_spec.specs.History.{Summary}
 use Rattle.paygo_spec.specs.Snapshot.{snapshot}
-use Rattle.token_decode.specs.Typed.{typed, by_length, token_in}
+use Rattle.paygo_spec.specs.Typed.{typed, by_length, token_in}
 use Rattle.token_decode.proofs.Answers.{snapshot_answers}
 
 pub snapshot_typed : (next : ℕ → ℕ) (unit start greatest : ℕ) (form : Form) (origin : Summary) (entries : List Entry) (digits : List ℕ)

@@ -10,7 +10,7 @@ use Rattle.paygo_spec.specs.Least.{least, IsLeast}
 use Rattle.paygo_spec.specs.History.{Summary, reach, is_valid, Valid as IsValid}
 use Rattle.paygo_spec.specs.Found.{is_match, both, found_at, answer, takes, found, IfValid, IsFirst, IsAnswer}
 use Rattle.paygo_spec.proofs.Entries.{valid_is}
-use Rattle.token_chain.proofs.Least.{least_says_some, least_says_none, least_of_some, least_of_none}
+use Rattle.paygo_spec.proofs.Leasts.{least_says_some, least_says_none, least_of_some, least_of_none}
 
 -- a valid answer has the value of the token, and its count is valid
 if_valid : (matches valid : ℕ → Bool) (value bound : ℕ) (best any : Option ℕ) → least (both matches valid) bound ≡ best → IfValid (found_at value best any) (λ count v. (v ≡ value) × (valid count ≡ true))

@@ -4,7 +4,7 @@ use Rattle.paygo_spec.specs.declared.Found.TheVariants.{Valid}
 use Rattle.std.specs.Option.{option_or}
 use Rattle.paygo_spec.specs.Least.{least}
 use Rattle.paygo_spec.specs.Found.{both, old_at, answer}
-use Rattle.token_chain.proofs.Least.{least_none, least_skip, least_found, least_more_yes, least_more_kept}
+use Rattle.paygo_spec.proofs.Leasts.{least_none, least_skip, least_found, least_more_yes, least_more_kept}
 
 -- No match below n is valid, and this is the least match below n, if there is one.
 pub record Passed (matches valid : ℕ → Bool) (n : ℕ) (old : Option ℕ) : Type 0 where

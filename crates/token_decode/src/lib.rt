@@ -10,7 +10,7 @@ ghost use Rattle.paygo_spec.specs.declared.TheConstants.{LAST};
 ghost use Rattle.paygo_spec.specs.History.{Summary, reach as reach_of, is_valid};
 ghost use Rattle.paygo_spec.specs.Window.{StandsFor, alone};
 ghost use Rattle.paygo_spec.specs.Snapshot.{snapshot};
-ghost use Rattle.token_decode.specs.Typed.{typed};
+ghost use Rattle.paygo_spec.specs.Typed.{typed};
 ghost use Rattle.paygo_spec.specs.Found.{is_match, takes, answer, found, IfValid, IsAnswer};
 
 use count_window::Window;

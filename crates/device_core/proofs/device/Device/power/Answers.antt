@@ -1,5 +1,6 @@
-use Rattle.device_core.proofs.Powering.{started}
+use Rattle.device_core.proofs.PowerSteps.{power_handled}
 use Rattle.device_core.proofs.device.Device.power.Goals as goal
 
-pub returns-clause-step : goal.returns-clause-step
-returns-clause-step g c = λ next stored fits stands. started next c.args.self.now stored _ _ stands _ _ c.power_up-phase.ensures
+pub returns : goal.returns
+returns g c = λ next.
+    power_handled next c.args.self.now _ _ c.start-phase.result c.greeting-reply.result c.empty.result c.greeting-reply.ensures.says c.empty.ensures c.greeting-reply.ensures.fits c.start-phase.ensures

@@ -1,0 +1,11 @@
+pub mod Summaries
+pub mod Calls
+pub mod Told
+pub mod Beginning
+pub mod Appending
+pub mod NewDevice
+pub mod ReadingCalls
+pub mod ReadingHead
+pub mod ReadingTold
+pub mod ReadingEntries
+pub mod ReadingBank

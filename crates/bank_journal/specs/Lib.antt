@@ -1,0 +1,4 @@
+pub mod Summary
+pub mod Outcomes
+pub mod Begin
+pub mod Reading

@@ -1,0 +1,69 @@
+// The numbers in the head of a bank: its first twelve words.
+ghost use Rattle.std.specs.Prelude.{◌≡◌, ◌<◌, ◌+◌, ◌*◌, ◌^◌, if◌then◌else◌};
+ghost use Rattle.paygo_spec.specs.Digits.{digit_count};
+ghost use Rattle.paygo_spec.specs.Layout.{head_number, key_number};
+ghost use Rattle.bank_journal.specs.Summary.{summary_of};
+
+use crate::summary::Summary;
+use paygo_spec::{Config, Form};
+
+/// How many words a head has.
+pub(crate) const HEAD: u16 = 12;
+
+/// The number at a place of the head, by the bank's number, what the device was made with, and the summary with which the
+/// bank begins.
+pub(crate) fn head_number(number: u32, config: &Config, summary: &Summary, place: u16) -> u32
+    requires within { place < 12 }
+    ensures { result ≡ head_number number config.now (summary_of summary.now) place }
+{
+    match place {
+        0 => number,
+        1 => key_part(&config.key, 0),
+        2 => key_part(&config.key, 1),
+        3 => key_part(&config.key, 2),
+        4 => key_part(&config.key, 3),
+        5 => config.start,
+        6 => format_number(config),
+        7 => window_number(summary),
+        8 => (summary.clock.left() >> 32) as u32,
+        9 => (summary.clock.left() & 0xFFFF_FFFF) as u32,
+        10 => state_number(summary),
+        _ => summary.clock.block(),
+    }
+}
+
+/// Four bytes of the key, the first the most significant.
+fn key_part(key: &[u8; 16], part: usize) -> u32
+    requires { part < 4 }
+    ensures { result ≡ key_number key.now part }
+{
+    let at = 4 * part;
+    u32::from_be_bytes([key[at], key[at + 1], key[at + 2], key[at + 3]])
+}
+
+/// The format, 1, with the form and the divider.
+fn format_number(config: &Config) -> u32
+    ensures { result ≡ 2 ^ 24 + digit_count config.now.form * 2 ^ 8 + config.now.divider }
+{
+    let divider = u32::from(config.divider);
+    match config.form {
+        Form::Nine => 0x0100_0900 + divider,
+        Form::Fifteen => 0x0100_0F00 + divider,
+    }
+}
+
+/// The last count and the used bits.
+fn window_number(summary: &Summary) -> u32
+    ensures { result ≡ summary.now.window.last * 2 ^ 16 + summary.now.window.bits }
+{
+    let (last, bits) = summary.window.parts();
+    (u32::from(last) << 16) + u32::from(bits)
+}
+
+/// Whether the device is free, and the failures.
+fn state_number(summary: &Summary) -> u32
+    ensures { result ≡ (if summary.now.clock.free then 2 ^ 8 else 0) + summary.now.clock.fails }
+{
+    let free = if summary.clock.free() { 1 << 8 } else { 0 };
+    free + u32::from(summary.clock.fails())
+}

@@ -1,0 +1,4 @@
+// The journal over a flash in memory.
+mod cuts;
+mod images;
+mod lives;

@@ -1,0 +1,17 @@
+-- What a line of a device asks for.
+use Rattle.std.specs.Prelude.{◌≡◌, true, List, [], ◌∷◌}
+use Rattle.paygo_spec.specs.declared.Event.{Event}
+use Rattle.paygo_spec.specs.Words.{are_key_text, presses}
+use Rattle.paygo_spec.specs.Machine.{IsEvent}
+use Rattle.bench_run.specs.declared.device_lines.Asked.{Asked}
+use Rattle.bench_run.specs.declared.device_lines.Asked.TheVariants.{One, Keys}
+
+-- The events that it asks for.
+abbrev pub events_of : Asked → List Event
+events_of (One event) = event ∷ []
+events_of (Keys text) = presses text.now
+
+-- Each of them may be asked for.
+abbrev pub IsAsked : Asked → Type 0
+IsAsked (One event) = IsEvent event
+IsAsked (Keys text) = are_key_text text.now ≡ true

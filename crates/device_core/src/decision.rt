@@ -1,0 +1,110 @@
+// What an event comes to on a device that was made. Nothing here touches the flash.
+ghost use Rattle.std.specs.Prelude.{◌≡◌, ◌≢◌, IfSome};
+ghost use Rattle.paygo_spec.specs.Machine.{IsEvent, History, Journal as JournalOf, keys_after};
+ghost use Rattle.paygo_spec.specs.Pad.{Keys, IsKey, after_key, kept_of};
+ghost use Rattle.device_core.specs.Decided.{MayDo, decided, decided_entry, decided_found, decided_key, decided_seconds, decided_token, found_in, unit_in};
+
+use crate::replies::{reply_to_time, show_same, shown};
+use bank_journal::Journal;
+use digit_set::{DigitFault, read};
+use keypad_entry::{Pad, Press};
+use paygo_spec::{Entry, Event, Found, Reply};
+use token_chain::Mixer;
+use token_decode::find;
+
+/// What an event comes to on a device that was made.
+#[derive(Clone, Copy, Debug, PartialEq, Eq)]
+pub enum Decision {
+    /// It is answered, and takes no word of the flash.
+    Answers(Reply),
+    /// It adds this entry to the history.
+    Adds(Entry),
+}
+
+// Decides what an event comes to, and tells the pad of it first: a key is pressed on it, and a tick lets it forget.
+pub(crate) fn decide<M: Mixer>(journal: &Journal, pad: &mut Pad, event: Event) -> Option<Decision>
+    requires { IsEvent event }
+    ensures decision { (keys : Keys) → pad.old ≡ kept_of keys → result ≡ decided M.next journal.now keys event }
+    ensures pad { (keys : Keys) (history : History) → pad.old ≡ kept_of keys → event ≢ Event.Power →
+        pad.new ≡ kept_of (keys_after (JournalOf history) event keys) }
+    ensures may { IfSome result (MayDo journal.now) }
+{
+    match event {
+        Event::Power => None,
+        Event::Make(_) => Some(Decision::Answers(Reply::Made {
+            number: journal.number(),
+        })),
+        Event::Key(key) => decide_key::<M>(journal, pad, key),
+        Event::Tick(seconds) => {
+            pad.idle(seconds);
+            Some(decide_seconds(journal, seconds))
+        }
+        Event::Show => Some(Decision::Answers(shown(journal, pad.held()))),
+    }
+}
+
+// A key is pressed. `#` hands the entry over.
+fn decide_key<M: Mixer>(journal: &Journal, pad: &mut Pad, key: u8) -> Option<Decision>
+    requires { IsKey key }
+    ensures decision { (keys : Keys) → pad.old ≡ kept_of keys → result ≡ decided_key M.next journal.now keys key }
+    ensures pad { (keys : Keys) → pad.old ≡ kept_of keys → pad.new ≡ kept_of (after_key key keys) }
+    ensures may { IfSome result (MayDo journal.now) }
+{
+    match pad.press(key) {
+        Press::Entry { digits, length } => Some(decide_entry::<M>(journal, &digits, length)),
+        _ => None,
+    }
+}
+
+// Judges an entry: first its length, then its digits, then what `decide_token` looks at.
+fn decide_entry<M: Mixer>(journal: &Journal, digits: &[u8; 15], held: u8) -> Decision
+    ensures { result ≡ decided_entry M.next journal.now digits.now held }
+{
+    let form = journal.config().form;
+    let count = usize::from(held);
+    if count != form.length() {
+        return Decision::Answers(Reply::Length { n: held });
+    }
+    match read(form, &digits[..count]) {
+        Ok(token) => decide_token::<M>(journal, token),
+        Err(DigitFault::Length(_)) => Decision::Answers(Reply::Length { n: held }),
+        Err(DigitFault::Digit(place)) => Decision::Answers(Reply::Digits { place: place as u8 }),
+    }
+}
+
+// Judges a token: a block is told before it is searched for.
+fn decide_token<M: Mixer>(journal: &Journal, token: u32) -> Decision
+    ensures { result ≡ decided_token M.next journal.now token }
+{
+    let block = journal.summary().clock.block();
+    if block > 0 {
+        return Decision::Answers(Reply::Blocked { block });
+    }
+    search::<M>(journal, token)
+}
+
+// Searches for a token, where entries aren't blocked.
+fn search<M: Mixer>(journal: &Journal, token: u32) -> Decision
+    requires { journal.now.summary.block ≡ 0 }
+    ensures { result ≡ decided_found journal.now (found_in M.next journal.now token) }
+{
+    let config = journal.config();
+    match find::<M>(&config.key, config.start, &journal.summary().window, token) {
+        Found::Valid { count, value } => Decision::Adds(Entry::Accept { count, value }),
+        Found::Old { .. } => Decision::Answers(Reply::Old),
+        Found::Invalid => Decision::Adds(Entry::Bad),
+    }
+}
+
+// Seconds pass.
+fn decide_seconds(journal: &Journal, seconds: u32) -> Decision
+    ensures { result ≡ decided_seconds (unit_in journal.now) journal.now.summary seconds }
+{
+    let before = journal.summary().clock;
+    let mut clock = before;
+    clock.pass(seconds);
+    if show_same(&clock, &before) {
+        return Decision::Answers(reply_to_time(&clock));
+    }
+    Decision::Adds(Entry::Elapsed { seconds })
+}

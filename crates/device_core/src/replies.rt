@@ -1,0 +1,79 @@
+// The replies of a device that was made, by what its journal says.
+ghost use Rattle.std.specs.Prelude.{◌≡◌};
+ghost use Rattle.paygo_spec.specs.Machine.{reply_to_entry, reply_to_set, shows_same};
+ghost use Rattle.device_core.specs.Decided.{shown_by};
+
+use bank_journal::Journal;
+use paid_clock::Clock;
+use paygo_spec::{Entry, Reply};
+
+// Whether two clocks show the same time left and block.
+pub(crate) fn show_same(now: &Clock, before: &Clock) -> bool
+    ensures { result ≡ shows_same now.now before.now }
+{
+    now.left() == before.left() && now.block() == before.block()
+}
+
+// The reply to seconds that passed, by the clock after them.
+pub(crate) fn reply_to_time(clock: &Clock) -> Reply
+    ensures { result ≡ Reply.Ticked clock.now.left clock.now.free clock.now.block }
+{
+    Reply::Ticked {
+        left: clock.left(),
+        free: clock.free(),
+        block: clock.block(),
+    }
+}
+
+// The reply to an accepted set token, by the clock after it.
+fn reply_to_set_token(count: u16, value: u16, clock: &Clock) -> Reply
+    ensures { result ≡ reply_to_set count value clock.now }
+{
+    if value <= 995 {
+        Reply::Set {
+            count,
+            value,
+            left: clock.left(),
+        }
+    } else if value == 998 {
+        Reply::Free { count }
+    } else {
+        Reply::Synced { count }
+    }
+}
+
+// The reply to an entry that was added to the history, by the clock after it.
+pub(crate) fn reply_to(entry: Entry, clock: &Clock) -> Reply
+    ensures { result ≡ reply_to_entry entry clock.now }
+{
+    match entry {
+        Entry::Accept { count, value } if count % 2 == 1 => reply_to_set_token(count, value, clock),
+        Entry::Accept { count, value } => Reply::Added {
+            count,
+            value,
+            left: clock.left(),
+            free: clock.free(),
+        },
+        Entry::Bad => Reply::Invalid {
+            block: clock.block(),
+        },
+        Entry::Elapsed { .. } => reply_to_time(clock),
+    }
+}
+
+// What the device shows, with so many digits on its pad.
+pub(crate) fn shown(journal: &Journal, held: u8) -> Reply
+    ensures { result ≡ shown_by journal.now held }
+{
+    let summary = journal.summary();
+    let (count, _) = summary.window.parts();
+    Reply::Shown {
+        count,
+        left: summary.clock.left(),
+        free: summary.clock.free(),
+        fails: summary.clock.fails(),
+        block: summary.clock.block(),
+        held,
+        room: journal.room(),
+    }
+}

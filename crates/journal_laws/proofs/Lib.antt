@@ -1,0 +1,17 @@
+pub mod Words
+pub mod Entries
+pub mod Erased
+pub mod Program
+pub mod OtherHeader
+pub mod Begin
+pub mod Turn
+pub mod Make
+pub mod Cuts
+pub mod Laws
+pub mod HeadPlaces
+pub mod HeadRead
+pub mod HeadWritten
+pub mod Headers
+pub mod Kept
+pub mod Recovered
+pub mod Standing
