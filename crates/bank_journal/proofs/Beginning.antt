@@ -5,14 +5,11 @@ use Rattle.std.proofs.lemmas.Nat.{and_mask, and_comm, and_assoc}
 use Rattle.std.specs.Option.{option_map}
 use Rattle.paygo_spec.specs.Rail.{railed}
 use Rattle.paygo_spec.specs.Flash.{AreWords, Becomes, HasOnesOf, erased_word, erased_bank}
-use Rattle.paygo_spec.specs.Recovery.{JournalView, Made, Unmade, recover, word_at}
-use Rattle.journal_laws.specs.Banks.{IsQuiet, IsBegun}
+use Rattle.paygo_spec.specs.Recovery.{word_at}
+use Rattle.journal_laws.specs.Banks.{IsBegun, LeavesOther}
 use Rattle.journal_laws.proofs.Words.{erased_in, erased_out}
-use Rattle.journal_laws.proofs.OtherHeader.{behind_torn, quiet_torn}
 use Rattle.journal_laws.proofs.Begin.{begun_erased, begun_more, other_word}
-use Rattle.journal_laws.proofs.Turn.{holds_outside}
-use Rattle.journal_laws.proofs.Recovered.{made_holds, holds_made, unmade_none, none_unmade}
-use Rattle.bank_journal.specs.Begin.{BeginsBank, LeavesOther}
+use Rattle.bank_journal.specs.Begin.{BeginsBank}
 use Rattle.bank_journal.proofs.Told.{told_change, told_more, told_now, told_then}
 
 -- an erased word has every 1 bit
@@ -41,25 +38,6 @@ left_word bank k at t ws vs two is low few x = record {
   header = subst (λ y. HasOnesOf (word_at ws bank 0) y) (sym (other_word vs at t bank 0 (λ q. omega arith))) x.header;
   other = λ p l. other_word vs at t (1 - bank) p (λ q. omega arith) ∙ x.other p l;
 }
-
--- the words stand for what they stood for
-pub left_made : (ws vs : List ℕ) (j : JournalView) → AreWords ws → AreWords vs → recover ws ≡ Made j → LeavesOther (1 - j.bank) ws vs → recover vs ≡ Made j
-left_made ws vs j are are_after found x =
-    let h = made_holds ws j are found in
-    let two : j.bank < 2 = h.ranges.bank in
-    let back : 1 - (1 - j.bank) ≡ j.bank = omega arith in
-    holds_made vs j (holds_outside ws vs j h are_after
-    (subst (λ b. (p : ℕ) → p < 512 → word_at vs b p ≡ word_at ws b p) back x.other)
-    (behind_torn (word_at ws (1 - j.bank) 0) (word_at vs (1 - j.bank) 0) j.at.number (are.each (512 * (1 - j.bank) + 0)) (are_after.each (512 * (1 - j.bank) + 0)) x.header h.other))
-
-pub left_unmade : (ws vs : List ℕ) → AreWords ws → AreWords vs → recover ws ≡ Unmade → LeavesOther 0 ws vs → recover vs ≡ Unmade
-left_unmade ws vs are are_after found x =
-    let h = unmade_none ws are found in
-    none_unmade vs (record {
-      whole = are_after;
-      first = quiet_torn (word_at ws 0 0) (word_at vs 0 0) (are.each (512 * 0 + 0)) (are_after.each (512 * 0 + 0)) x.header h.first;
-      second = subst (λ y. IsQuiet y) (sym (x.other 0 (lit< tt))) h.second;
-    })
 
 -- a bank is begun on words that are told
 pub begins_first : (bank : ℕ) (head : ℕ → ℕ) (o n : Option (List ℕ)) → bank < 2 → IfSome o AreWords → n ≡ option_map (erased_bank bank) o → Becomes (BeginsBank bank head 1) o n

@@ -9,14 +9,13 @@ use Rattle.paygo_spec.specs.Layout.{head_number}
 use Rattle.paygo_spec.specs.Machine.{IsConfig}
 use Rattle.paygo_spec.specs.Rail.{railed, number_in}
 use Rattle.paygo_spec.specs.Recovery.{Made, Unmade, recover, word_at, newest_bank}
-use Rattle.journal_laws.specs.Banks.{IsKeyBytes}
+use Rattle.journal_laws.specs.Banks.{IsKeyBytes, LeavesOther}
 use Rattle.journal_laws.specs.Journal.{new_journal, IsCutMake}
-use Rattle.journal_laws.proofs.Laws.{device_made, make_cut}
+use Rattle.journal_laws.proofs.Laws.{unmade_left, device_made, make_cut}
 use Rattle.journal_laws.proofs.Recovered.{headers_quiet, none_unmade}
 use Rattle.bank_journal.specs.declared.journal.JournalFault.TheVariants as fault
-use Rattle.bank_journal.specs.Begin.{BeginsBank, LeavesOther}
+use Rattle.bank_journal.specs.Begin.{BeginsBank}
 use Rattle.bank_journal.specs.Outcomes.{MakesAs}
-use Rattle.bank_journal.proofs.Beginning.{left_unmade}
 use Rattle.bank_journal.proofs.ReadingBank.{bank_within, header_is}
 use Rattle.bank_journal.proofs.Told.{told_both, told_cut, told_more, told_more_cut, told_with}
 
@@ -50,7 +49,7 @@ module _ (config : Config) (key : IsKeyBytes config.key) (in_range : IsConfig co
 
   pub make_begun : (n : Option (List ℕ)) → IfSome n AreWords → Becomes (LeavesOther 0) o n → Becomes (IsCutMake config) o n
   make_begun n after left = told_cut Was AreWords (LeavesOther 0) (IsCutMake config) o n was after left
-      (λ a b h v l. inl (left_unmade a b h.0 v h.1 l ∙ sym h.1))
+      (λ a b h v l. inl (unmade_left a b h.0 v h.1 l ∙ sym h.1))
 
   module _ (m : Option (List ℕ)) (mid : IfSome m AreWords) (begun : Becomes (BeginsBank 0 (head_number 1 config fresh) 12) o m) where
     abbrev Begun : List ℕ → List ℕ → Type 0
@@ -61,7 +60,7 @@ module _ (config : Config) (key : IsKeyBytes config.key) (in_range : IsConfig co
 
     pub make_done : (n : Option (List ℕ)) → n ≡ option_map (λ (ws : List ℕ). slice_set ws 0 (railed 1)) m → Becomes (λ old new. recover new ≡ Made (new_journal config)) o n
     make_done n done = told_more AreWords Begun (λ old new. recover new ≡ Made (new_journal config)) (λ (ws : List ℕ). slice_set ws 0 (railed 1)) o m n all_begun mid done
-        (λ a b r v. device_made b config v (left_unmade a b r.0.0 v r.0.1 r.1.0) key in_range r.1.1)
+        (λ a b r v. device_made b config v (unmade_left a b r.0.0 v r.0.1 r.1.0) key in_range r.1.1)
 
     -- what a cut of the header leaves, by the words before the bank was begun
     cut_since : (a b c : List ℕ) → recover a ≡ Unmade → recover b ≡ Unmade → IsCutMake config b c → IsCutMake config a c
@@ -71,5 +70,5 @@ module _ (config : Config) (key : IsKeyBytes config.key) (in_range : IsConfig co
     pub make_torn : (n : Option (List ℕ)) → IfSome n AreWords → Becomes (TornProgram 0 (railed 1)) m n → Becomes (IsCutMake config) o n
     make_torn n after torn = told_more_cut AreWords AreWords Begun (TornProgram 0 (railed 1)) (IsCutMake config) o m n all_begun mid after torn
         (λ a b c r v w t.
-        let none = left_unmade a b r.0.0 v r.0.1 r.1.0 in
+        let none = unmade_left a b r.0.0 v r.0.1 r.1.0 in
         cut_since a b c r.0.1 none (make_cut b c config v none key in_range r.1.1 t))

@@ -41,6 +41,13 @@ MakeCalls (Err (fault.Damaged place)) old new = Passed 2 old new × (new.words �
 MakeCalls (Err (fault.Made number)) old new = Passed 2 old new × (new.words ≡ old.words)
 MakeCalls (Err _) old new = ⊥
 
+-- `raise` makes 13 calls.
+abbrev pub RaiseCalls : Result (Unit {0}) JournalFault → FlashView → FlashView → Type 0
+RaiseCalls (Ok done) old new = Passed 13 old new
+RaiseCalls (Err fault.Flash) old new = Failed 13 old new
+RaiseCalls (Err fault.Worn) old new = Unit {0}
+RaiseCalls (Err _) old new = ⊥
+
 -- `append` makes one call where a place is free, and 14 where it goes to the other bank.
 abbrev pub AppendCalls : Position → Result (Unit {0}) JournalFault → FlashView → FlashView → Type 0
 AppendCalls at (Ok done) old new = Passed (calls_of_entry at) old new

@@ -5,6 +5,7 @@ use Rattle.bank_journal.specs.declared.summary.Summary.{Summary}
 abbrev pub summary_of : Summary → SummaryOf
 summary_of summary =
     record {
+      limit = summary.window.limit;
       last = summary.window.last;
       bits = summary.window.bits;
       left = summary.clock.left;

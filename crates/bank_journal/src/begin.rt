@@ -2,8 +2,8 @@
 ghost use Rattle.std.specs.Prelude.{◌≡◌, ◌<◌, true, IfSome, OnOk, OnErr};
 ghost use Rattle.paygo_spec.specs.Flash.{Becomes};
 ghost use Rattle.paygo_spec.specs.Layout.{head_number};
-ghost use Rattle.journal_laws.specs.Banks.{IsBegun};
-ghost use Rattle.bank_journal.specs.Begin.{BeginsBank, CallsBy, LeavesOther};
+ghost use Rattle.journal_laws.specs.Banks.{IsBegun, LeavesOther};
+ghost use Rattle.bank_journal.specs.Begin.{BeginsBank, CallsBy};
 ghost use Rattle.bank_journal.specs.Summary.{summary_of};
 
 use crate::head::{HEAD, head_number};

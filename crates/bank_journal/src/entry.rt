@@ -13,5 +13,6 @@ pub(crate) fn number_of(entry: Entry) -> u32
         Entry::Accept { count, value } => (u32::from(count) << 10) + u32::from(value),
         Entry::Bad => 1 << 30,
         Entry::Elapsed { seconds } => (2 << 30) + seconds,
+        Entry::Raised => 3 << 30,
     }
 }

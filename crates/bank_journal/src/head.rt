@@ -1,11 +1,11 @@
 // The numbers in the head of a bank: its first twelve words.
 ghost use Rattle.std.specs.Prelude.{◌≡◌, ◌<◌, ◌+◌, ◌*◌, ◌^◌, if◌then◌else◌};
 ghost use Rattle.paygo_spec.specs.Digits.{digit_count};
-ghost use Rattle.paygo_spec.specs.Layout.{head_number, key_number};
+ghost use Rattle.paygo_spec.specs.Layout.{format_of, head_number, key_number};
 ghost use Rattle.bank_journal.specs.Summary.{summary_of};
 
 use crate::summary::Summary;
-use paygo_spec::{Config, Form};
+use paygo_spec::{Config, Form, GREAT};
 
 /// How many words a head has.
 pub(crate) const HEAD: u16 = 12;
@@ -23,7 +23,7 @@ pub(crate) fn head_number(number: u32, config: &Config, summary: &Summary, place
         3 => key_part(&config.key, 2),
         4 => key_part(&config.key, 3),
         5 => config.start,
-        6 => format_number(config),
+        6 => format_number(config, summary),
         7 => window_number(summary),
         8 => (summary.clock.left() >> 32) as u32,
         9 => (summary.clock.left() & 0xFFFF_FFFF) as u32,
@@ -41,14 +41,19 @@ fn key_part(key: &[u8; 16], part: usize) -> u32
     u32::from_be_bytes([key[at], key[at + 1], key[at + 2], key[at + 3]])
 }
 
-/// The format, 1, with the form and the divider.
-fn format_number(config: &Config) -> u32
-    ensures { result ≡ 2 ^ 24 + digit_count config.now.form * 2 ^ 8 + config.now.divider }
+/// The format, 1, or 2 on a device that was raised, with the form and the divider.
+fn format_number(config: &Config, summary: &Summary) -> u32
+    ensures { result ≡ format_of summary.now.window.limit * 2 ^ 24 + digit_count config.now.form * 2 ^ 8 + config.now.divider }
 {
     let divider = u32::from(config.divider);
+    let format = if summary.window.limit() == GREAT {
+        0x0200_0000
+    } else {
+        0x0100_0000
+    };
     match config.form {
-        Form::Nine => 0x0100_0900 + divider,
-        Form::Fifteen => 0x0100_0F00 + divider,
+        Form::Nine => format + 0x0900 + divider,
+        Form::Fifteen => format + 0x0F00 + divider,
     }
 }
 

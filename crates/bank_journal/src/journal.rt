@@ -64,8 +64,7 @@ impl Model for Journal {
 }
 
 impl Journal {
-    ghost use Rattle.std.specs.Prelude.{◌≡◌};
-    ghost use Rattle.paygo_spec.specs.declared.TheConstants.{LAST};
+    ghost use Rattle.std.specs.Prelude.{◌≡◌, ◌≤◌};
     ghost use Rattle.paygo_spec.specs.Lawful.{IsSummary};
     ghost use Rattle.paygo_spec.specs.Layout.{room};
     ghost use Rattle.paygo_spec.specs.Machine.{IsConfig};
@@ -74,7 +73,8 @@ impl Journal {
     /// How many more entries the flash has room for, from 0 to 50,000,000: the free places of the bank in use, and 500
     /// for each later bank up to the 100,000th.
     pub fn room(&self) -> u64
-        ensures { result ≡ room self.now.at }
+        ensures value { result ≡ room self.now.at }
+        ensures most { result ≤ 50000000 }
     {
         (u64::from(BANK) - u64::from(self.place))
             + (u64::from(LAST_BANK) - u64::from(self.number)) * u64::from(ENTRIES)
@@ -91,14 +91,16 @@ impl Journal {
     /// The summary of the history.
     pub fn summary(&self) -> &Summary
         ensures value { summary_of result.now ≡ self.now.summary }
-        ensures rule { IsSummary LAST self.now.summary }
+        ensures rule { IsSummary self.now.summary }
     {
         &self.summary
     }
 
     /// The number of the bank in use, from 1 to 100,000.
     pub fn number(&self) -> u32
-        ensures { result ≡ self.now.at.number }
+        ensures value { result ≡ self.now.at.number }
+        ensures first { 1 ≤ result }
+        ensures last { result ≤ 100000 }
     {
         self.number
     }

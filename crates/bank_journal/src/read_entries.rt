@@ -1,6 +1,5 @@
 // The entries of a bank are read: its words from place 12 on.
 ghost use Rattle.std.specs.Prelude.{◌≡◌, ◌≤◌, ◌<◌, ◌==◌, true, Ok, IfOk, IfSome, if◌then◌else◌};
-ghost use Rattle.paygo_spec.specs.declared.TheConstants.{LAST};
 ghost use Rattle.paygo_spec.specs.Flash.{erased_word};
 ghost use Rattle.paygo_spec.specs.Lawful.{IsSummary};
 ghost use Rattle.paygo_spec.specs.Recovery.{after_word};
@@ -61,11 +60,11 @@ pub(crate) fn read_entries<F: Flash>(
 ) -> Result<(Summary, u16), JournalFault>
     requires bank { bank < 2 }
     requires unit { unit ≤ 86400 }
-    requires start { IsSummary LAST (summary_of start) }
+    requires start { IsSummary (summary_of start) }
     requires up { (F.view flash.old).up ≡ true }
     ensures words { (F.view flash.new).words ≡ (F.view flash.old).words }
     ensures place { IfOk result (λ read. (12 ≤ read.1) × (read.1 ≤ 512)) }
-    ensures rule { IfOk result (λ read. IsSummary LAST (summary_of read.0)) }
+    ensures rule { IfOk result (λ read. IsSummary (summary_of read.0)) }
     ensures found { IfSome (F.view flash.old).words (λ words. EntriesAs words bank unit (summary_of start) result) }
     ensures calls { ReadCalls 500 result (F.view flash.old) (F.view flash.new) }
 {

@@ -1,7 +1,6 @@
 // The entries of a history, as they are read from the words of a bank.
 ghost use Rattle.std.specs.Prelude.{◌≡◌, ◌≤◌};
 ghost use Rattle.std.specs.Option.{option_map};
-ghost use Rattle.paygo_spec.specs.declared.TheConstants.{LAST};
 ghost use Rattle.paygo_spec.specs.EntryNumber.{entry_of, next};
 ghost use Rattle.paygo_spec.specs.Lawful.{follows};
 ghost use Rattle.bank_journal.specs.Summary.{summary_of};
@@ -36,13 +35,14 @@ impl Summary {
     /// Whether an entry may come next: a token, accepted or bad, only where nothing is blocked, and an accepted one only
     /// where the window takes it; passed time from 1 to 999,999,999 seconds.
     fn may(&self, entry: &Entry) -> bool
-        ensures { result ≡ follows LAST (summary_of self.now) entry.now }
+        ensures { result ≡ follows (summary_of self.now) entry.now }
     {
         match *entry {
             Entry::Accept { count, value } => self.clock.block() == 0
                 && self.window.may(count, value),
             Entry::Bad => self.clock.block() == 0,
             Entry::Elapsed { seconds } => 1 <= seconds && seconds <= 999_999_999,
+            Entry::Raised => false,
         }
     }
 
@@ -50,7 +50,7 @@ impl Summary {
     /// that of no entry, or of one that may not come next.
     pub(crate) fn after_number(mut self, number: u32, unit: u32) -> Option<Summary>
         requires { unit ≤ 86400 }
-        ensures { option_map summary_of result ≡ next LAST unit (summary_of self) number }
+        ensures { option_map summary_of result ≡ next unit (summary_of self) number }
     {
         let entry = read_entry(number)?;
         if !self.may(&entry) {

@@ -1,8 +1,10 @@
 // The head of a bank is read: the numbers at its places 1 to 11.
-ghost use Rattle.std.specs.Prelude.{◌≡◌, ◌<◌, nat_le, true, ◌++◌, slice_index, IfOk, IfSome};
+ghost use Rattle.std.specs.Prelude.{◌≡◌, ◌<◌, ◌/◌, ◌%◌, ◌^◌, nat_le, true, ◌++◌, slice_index, IfOk, IfSome, is_some};
 ghost use Rattle.std.specs.Int.{w32, to_be_bytes};
+ghost use Rattle.paygo_spec.specs.History.{IsLimit};
 ghost use Rattle.paygo_spec.specs.Clock.{longest_block};
-ghost use Rattle.paygo_spec.specs.Recovery.{is_format, is_state, left_in, keeps_rule, config_in_head, summary_in_head};
+ghost use Rattle.paygo_spec.specs.Window.{is_window};
+ghost use Rattle.paygo_spec.specs.Recovery.{is_format, limit_in, is_state, left_in, keeps_rule, config_in_head, summary_in_head};
 ghost use Rattle.journal_laws.specs.Banks.{KeepsRules};
 ghost use Rattle.bank_journal.specs.Reading.{ReadCalls, NumberAs, HeadAs};
 ghost use Rattle.bank_journal.specs.Summary.{summary_of};
@@ -14,7 +16,7 @@ use crate::words::read_word;
 use count_window::Window;
 use paid_clock::Clock;
 use paygo_outside::{BANK, Flash};
-use paygo_spec::{Config, DAY, Form, MOST_LEFT};
+use paygo_spec::{Config, DAY, Form, GREAT, LAST, MOST_LEFT};
 use word_rail::unrail;
 
 /// The number that stands at a place of the flash, from 0 to 1,023. A word that isn't railed is a damage there.
@@ -41,13 +43,37 @@ fn time_left(numbers: &[u32; 12]) -> u64
     (u64::from(numbers[8]) << 32) + u64::from(numbers[9])
 }
 
-/// Whether the number at place 6 is format 1, a form of 9 or 15 digits, and a divider of a day's seconds.
+/// Whether the number at place 6 is format 1 or 2, a form of 9 or 15 digits, and a divider of a day's seconds.
 fn keeps_format(number: u32) -> bool
     ensures { result ≡ is_format number }
 {
     let digits = (number >> 8) & 0xFF;
     let divider = number & 0xFF;
-    number >> 16 == 0x0100 && (digits == 9 || digits == 15) && divider > 0 && DAY % divider == 0
+    let format = number >> 16;
+    (format == 0x0100 || format == 0x0200)
+        && (digits == 9 || digits == 15)
+        && divider > 0
+        && DAY % divider == 0
+}
+
+/// The greatest count that the number at place 6 says by its format.
+fn limit_in(number: u32) -> u16
+    ensures value { result ≡ limit_in number }
+    ensures rule { IsLimit result }
+{
+    if number >> 24 == 2 { GREAT } else { LAST }
+}
+
+/// The window that the numbers at the places 6 and 7 say, or none where it breaks the rule on windows.
+fn window_in(format: u32, number: u32) -> Option<Window>
+    ensures test { is_some result ≡ is_window (limit_in format) (number / 2 ^ 16) (number % 2 ^ 16) }
+    ensures parts { IfSome result (λ w. w ≡ record { limit = limit_in format; last = number / 2 ^ 16; bits = number % 2 ^ 16 }) }
+{
+    Window::of_parts(
+        limit_in(format),
+        (number >> 16) as u16,
+        (number & 0xFFFF) as u16,
+    )
 }
 
 /// Whether the number at place 10 has nothing above bit 8, at most ten failures in its lower byte, and, where bit 8 says
@@ -80,7 +106,7 @@ fn keeps_rule(numbers: &[u32; 12], place: u16) -> bool
     match place {
         5 => numbers[5] < 1_000_000_000,
         6 => keeps_format(numbers[6]),
-        7 => Window::of_parts((numbers[7] >> 16) as u16, (numbers[7] & 0xFFFF) as u16).is_some(),
+        7 => window_in(numbers[6], numbers[7]).is_some(),
         9 => time_left(numbers) <= MOST_LEFT,
         10 => keeps_state(time_left(numbers), numbers[10]),
         11 => keeps_block(numbers[10] & 0xFF, numbers[11]),
@@ -147,7 +173,7 @@ pub(crate) fn summary_in(numbers: &[u32; 12]) -> Summary
     requires { KeepsRules (slice_index numbers.now) }
     ensures { summary_of result ≡ summary_in_head (slice_index numbers.now) }
 {
-    let window = Window::of_parts((numbers[7] >> 16) as u16, (numbers[7] & 0xFFFF) as u16);
+    let window = window_in(numbers[6], numbers[7]);
     let fails = (numbers[10] & 0xFF) as u8;
     let clock = Clock::of_parts(time_left(numbers), numbers[10] >= 0x100, fails, numbers[11]);
     Summary {

@@ -1,6 +1,6 @@
 // What a journal knows of the past.
-ghost use Rattle.std.specs.Prelude.{◌≡◌, ◌≤◌, true, [], ◌∷◌};
-ghost use Rattle.paygo_spec.specs.declared.TheConstants.{LAST};
+ghost use Rattle.std.specs.Prelude.{◌≡◌, ◌≤◌, ℕ, true, [], ◌∷◌};
+ghost use Rattle.paygo_spec.specs.declared.Entry.TheVariants.{Raised};
 ghost use Rattle.paygo_spec.specs.History.{fresh};
 ghost use Rattle.paygo_spec.specs.Lawful.{follows};
 ghost use Rattle.paygo_spec.specs.Snapshot.{snapshot};
@@ -36,7 +36,7 @@ impl Summary {
     /// The caller sees to it that the entry follows, and that a unit has at most 86,400 seconds.
     pub(crate) fn add(&mut self, entry: Entry, unit: u32)
         requires unit { unit ≤ 86400 }
-        requires follows { follows LAST (summary_of self.old) entry ≡ true }
+        requires follows { follows (summary_of self.old) entry ≡ true }
         ensures { summary_of self.new ≡ snapshot unit (summary_of self.old) (entry ∷ []) }
     {
         // The rule on windows says that the bits are those of a history.
@@ -48,6 +48,16 @@ impl Summary {
             }
             Entry::Bad => self.clock.bad(),
             Entry::Elapsed { seconds } => self.clock.pass(seconds),
+            Entry::Raised => self.window.raise(),
         }
+    }
+
+    /// The summary of the device that is raised: the limit is the greater one.
+    pub(crate) fn raised(mut self) -> Summary
+        ensures { (unit : ℕ) → summary_of result ≡ snapshot unit (summary_of self) (Raised ∷ []) }
+    {
+        let (_last, _bits) = self.window.parts();
+        self.window.raise();
+        self
     }
 }

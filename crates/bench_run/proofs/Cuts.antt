@@ -3,7 +3,7 @@ use Rattle.std.proofs.Common.{◌≡◌, ℕ, suc, ◌+◌, ◌<◌, true, false
 use Rattle.std.specs.List.{position_from}
 use Rattle.std.specs.Prelude.{position}
 use Rattle.std.proofs.lemmas.Iterator.Adapters.{position_from-zero}
-use Rattle.paygo_spec.specs.Lines.{lines_from, rest_from, whole_lines}
+use Rattle.run_spec.specs.Lines.{lines_from, rest_from, whole_lines}
 use Rattle.bench_run.specs.Gather.{is_end}
 
 -- the lines of two parts

@@ -5,7 +5,7 @@ use Rattle.std.proofs.lemmas.Bool.{cases_lt, cases_eq}
 use Rattle.std.proofs.lemmas.Bool.Decides.{nat_tests}
 use Rattle.std.specs.Io.KnownBytes.{prepend_known}
 use Rattle.paygo_spec.specs.Streams.{SourceView, raised}
-use Rattle.paygo_spec.specs.Lines.{whole_lines}
+use Rattle.run_spec.specs.Lines.{whole_lines}
 use Rattle.bench_run.specs.declared.lines.Next.TheVariants.{End}
 use Rattle.bench_run.specs.declared.lines.LinesFault.{LinesFault}
 use Rattle.bench_run.specs.declared.lines.LinesFault.TheVariants as fault

@@ -2,7 +2,7 @@
 use Rattle.std.proofs.Common.{◌≡◌, ℕ, suc, ◌+◌, ◌-◌, ◌≤◌, ◌<◌, Bool, true, false, List, ◌∷◌, ◌++◌, length, take, drop, Some, None, refl, sym, ap, ◌∙◌, arith, subst, add-one}
 use Rattle.std.specs.Prelude.{position}
 use Rattle.std.proofs.lemmas.List.{length-take, drop-drop, drop-take}
-use Rattle.paygo_spec.specs.Lines.{whole_lines}
+use Rattle.run_spec.specs.Lines.{whole_lines}
 use Rattle.bench_run.specs.Reader.{LinesView}
 use Rattle.bench_run.specs.Gather.{is_end, IsFront, IsPiece}
 use Rattle.bench_run.proofs.Cuts.{position_found, position_missed}

@@ -5,11 +5,12 @@ use Rattle.std.proofs.Math.Seq.{drop-cons}
 use Rattle.paygo_spec.specs.declared.Event.TheVariants.{Key}
 use Rattle.paygo_spec.specs.Flash.{FlashView}
 use Rattle.paygo_spec.specs.Streams.{SinkView}
-use Rattle.paygo_spec.specs.Words.{is_space, is_key_text, are_key_text, presses}
-use Rattle.paygo_spec.specs.Machine.{Step, Act}
+use Rattle.paygo_spec.specs.Words.{is_space}
+use Rattle.run_spec.specs.DeviceLines.{is_key_text, are_key_text, presses}
+use Rattle.run_spec.specs.Run.{Step, Act}
 use Rattle.device_core.specs.declared.device.Device.{Device}
 use Rattle.paygo_outside.specs.declared.sink.WriteFault.{WriteFault}
-use Rattle.bench_run.specs.Bench.{Works}
+use Rattle.bench_run.specs.Bench.{DeviceWorks}
 use Rattle.bench_run.proofs.Runs.{works_more, works_front}
 
 -- the keys of two texts
@@ -45,26 +46,26 @@ keys_behind text i within keys =
     both (is_key_text (get_or text i 0)) (are_key_text (drop (i + 1) text)) (ap are_key_text (sym next) ∙ keys)
 
 module _ (next : List ℕ → ℕ → ℕ) (text : List ℕ) (i : ℕ) (first old new : Device) (begun was now : FlashView) (empty sink after : SinkView) (within : i < length text)
-    (so_far : Works next (pressed (take i text)) (Ok tt) first begun empty old was sink) where
+    (so_far : DeviceWorks next (pressed (take i text)) (Ok tt) first begun empty old was sink) where
   -- what became of the keys up to one more
-  further : (result : Result (Unit {0}) WriteFault) → Works next (pressed (get_or text i 0 ∷ [])) result old was sink new now after
-      → Works next (pressed (take (i + 1) text)) result first begun empty new now after
+  further : (result : Result (Unit {0}) WriteFault) → DeviceWorks next (pressed (get_or text i 0 ∷ [])) result old was sink new now after
+      → DeviceWorks next (pressed (take (i + 1) text)) result first begun empty new now after
   further result works =
-      subst (λ (steps : List Step). Works next steps result first begun empty new now after) (sym (pressed_more text i within))
+      subst (λ (steps : List Step). DeviceWorks next steps result first begun empty new now after) (sym (pressed_more text i within))
       (works_more next (pressed (take i text)) (pressed (get_or text i 0 ∷ [])) result first old new begun was now empty sink after so_far works)
 
   -- one more key is done
-  pub one_more : Works next (pressed (get_or text i 0 ∷ [])) (Ok tt) old was sink new now after → Works next (pressed (take (i + 1) text)) (Ok tt) first begun empty new now after
+  pub one_more : DeviceWorks next (pressed (get_or text i 0 ∷ [])) (Ok tt) old was sink new now after → DeviceWorks next (pressed (take (i + 1) text)) (Ok tt) first begun empty new now after
   one_more works = further (Ok tt) works
 
   -- the sink failed at the answer to one more key, and the keys behind it aren't pressed
-  pub stopped_at : (fault : WriteFault) → Works next (pressed (get_or text i 0 ∷ [])) (Err fault) old was sink new now after → Works next (pressed text) (Err fault) first begun empty new now after
+  pub stopped_at : (fault : WriteFault) → DeviceWorks next (pressed (get_or text i 0 ∷ [])) (Err fault) old was sink new now after → DeviceWorks next (pressed text) (Err fault) first begun empty new now after
   stopped_at fault works =
-      subst (λ (steps : List Step). Works next steps (Err fault) first begun empty new now after) (sym (pressed_split text (i + 1)))
+      subst (λ (steps : List Step). DeviceWorks next steps (Err fault) first begun empty new now after) (sym (pressed_split text (i + 1)))
       (works_front next (pressed (take (i + 1) text)) (pressed (drop (i + 1) text)) fault first new begun now empty after (further (Err fault) works))
 
 -- all keys are done
 pub all_pressed : (next : List ℕ → ℕ → ℕ) (text : List ℕ) (i : ℕ) (first old : Device) (begun was : FlashView) (empty sink : SinkView) → length text ≤ i
-    → Works next (pressed (take i text)) (Ok tt) first begun empty old was sink → Works next (pressed text) (Ok tt) first begun empty old was sink
+    → DeviceWorks next (pressed (take i text)) (Ok tt) first begun empty old was sink → DeviceWorks next (pressed text) (Ok tt) first begun empty old was sink
 all_pressed next text i first old begun was empty sink all works =
-    subst (λ (keys : List ℕ). Works next (pressed keys) (Ok tt) first begun empty old was sink) (take_all i text all) works
+    subst (λ (keys : List ℕ). DeviceWorks next (pressed keys) (Ok tt) first begun empty old was sink) (take_all i text all) works

@@ -1,7 +1,7 @@
 -- What a line of a device asks for.
 use Rattle.std.specs.Prelude.{◌≡◌, true, List, [], ◌∷◌}
 use Rattle.paygo_spec.specs.declared.Event.{Event}
-use Rattle.paygo_spec.specs.Words.{are_key_text, presses}
+use Rattle.run_spec.specs.DeviceLines.{are_key_text, presses}
 use Rattle.paygo_spec.specs.Machine.{IsEvent}
 use Rattle.bench_run.specs.declared.device_lines.Asked.{Asked}
 use Rattle.bench_run.specs.declared.device_lines.Asked.TheVariants.{One, Keys}

@@ -2,7 +2,7 @@
 use Rattle.std.specs.Prelude.{◌≡◌, ℕ, ◌+◌, ◌<◌, Bool, false, ◌==◌, nat_le, List, [], ◌∷◌, ◌++◌, length, take, Result, Ok, Err, if◌then◌else◌}
 use Rattle.paygo_spec.specs.Faults.{Rose}
 use Rattle.paygo_spec.specs.Streams.{SourceView}
-use Rattle.paygo_spec.specs.Lines.{whole_lines}
+use Rattle.run_spec.specs.Lines.{whole_lines}
 use Rattle.bench_run.specs.declared.lines.Next.{Next}
 use Rattle.bench_run.specs.declared.lines.Next.TheVariants.{Line, Long}
 use Rattle.bench_run.specs.declared.lines.LinesFault.{LinesFault}

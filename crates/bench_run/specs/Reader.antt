@@ -3,7 +3,7 @@ use Rattle.std.specs.Prelude.{◌≡◌, ◌≢◌, ◌⊎◌, ℕ, ◌+◌, ◌
 use Rattle.std.specs.Io.KnownBytes.{prepend_known, IsAtEnd}
 use Rattle.paygo_spec.specs.Faults.{Rose}
 use Rattle.paygo_spec.specs.Streams.{SourceView, raised}
-use Rattle.paygo_spec.specs.Lines.{whole_lines}
+use Rattle.run_spec.specs.Lines.{whole_lines}
 use Rattle.bench_run.specs.declared.lines.Next.{Next}
 use Rattle.bench_run.specs.declared.lines.Next.TheVariants.{Line, Long, End}
 use Rattle.bench_run.specs.declared.lines.LinesFault.{LinesFault}

@@ -1,18 +1,40 @@
-// A bench: a device whose lines are read and whose answers are written.
+// A bench: a device and a ledger whose lines are read and whose answers are written.
+ghost use Rattle.std.specs.Prelude.{◌≡◌};
+ghost use Rattle.bench_run.specs.Bench.{of_line};
+
 use crate::device_lines::{Asked, asked_by, trimmed};
-use crate::output::{write_reply, write_text};
+use crate::output::{write_answer, write_fault, write_reply, write_text};
 use device_core::Device;
+use ledger_keeper::Keeper;
+use ledger_spec::{Answer, Command, LedgerFault, TextFault};
+use ledger_text::read;
 use line_text::Line;
+use loan_ledger::apply;
 use paygo_outside::{Flash, Sink, WriteFault};
 use paygo_spec::{Event, Reply};
-use std::marker::{Model, PhantomData};
+use run_spec::Mode;
+use std::alloc::Global;
+use std::marker::Model;
 use token_chain::Mixer;
+use token_issue::Tables;
 
-/// A device under one mixer, before which lines come in and behind which answers go out. It is seen as its device.
+/// Why a line wasn't answered.
+#[derive(Clone, Copy, Debug, PartialEq, Eq)]
+pub enum LineFault {
+    /// The keeper failed.
+    Keep,
+    /// There was no memory for a line of the ledger.
+    Memory,
+    /// The sink failed.
+    Write,
+}
+
+/// A device and the chain tables of the ledger, under one mixer: before it lines come in, and behind it answers go out. The
+/// tables are made at the first command. It is seen as its device, since what the tables keep never changes an answer.
 #[derive(Drop)]
 pub struct Bench<M: Mixer> {
     device: Device,
-    mixer: PhantomData<M>,
+    tables: Option<Tables<M>>,
 }
 
 impl<M: Mixer> Model for Bench<M> {
@@ -24,16 +46,21 @@ impl<M: Mixer> Model for Bench<M> {
 }
 
 impl<M: Mixer> Bench<M> {
-    ghost use Rattle.std.specs.Prelude.{◌≡◌, ◌≤◌, true, false, [], ◌∷◌, ◌++◌, codes, length, map, Some};
-    ghost use Rattle.paygo_spec.specs.Flash.{FlashView};
+    ghost use Rattle.std.specs.Prelude.{◌≡◌, ◌≢◌, ◌≤◌, true, false, [], ◌∷◌, ◌++◌, codes, length, map, Some, Err, IfOk};
     ghost use Rattle.std.specs.Fmt.{decimal};
     ghost use Rattle.paygo_spec.specs.Faults.{HasCause};
+    ghost use Rattle.paygo_spec.specs.Flash.{FlashView};
+    ghost use Rattle.paygo_spec.specs.Machine.{IsEvent};
     ghost use Rattle.paygo_spec.specs.Pad.{kept_of, no_keys};
-    ghost use Rattle.paygo_spec.specs.Words.{are_key_text, is_key_text, presses};
-    ghost use Rattle.paygo_spec.specs.Machine.{Say, Act, IsEvent, steps_of_line};
+    ghost use Rattle.ledger_spec.specs.Applied.{Applies};
+    ghost use Rattle.ledger_spec.specs.Keeper.{KeeperView};
+    ghost use Rattle.ledger_spec.specs.Ledger.{done, IsCommand, AnswerIsInRange};
+    ghost use Rattle.run_spec.specs.DeviceLines.{are_key_text, is_key_text, presses};
+    ghost use Rattle.run_spec.specs.Meaning.{is_ledger_text, steps_of_line, steps_of_ledger, steps_of_device, trimmed as line_trimmed};
+    ghost use Rattle.run_spec.specs.Run.{Say, Do, Act};
     ghost use Rattle.device_core.specs.Memory.{is_on, Holds, IsDown, Does, CostsAsSaid, Remembers};
     ghost use Rattle.bench_run.specs.Asked.{events_of, IsAsked};
-    ghost use Rattle.bench_run.specs.Bench.{Works};
+    ghost use Rattle.bench_run.specs.Bench.{desk, Works, DeviceWorks, Says, HasCauses, IsLedgerFault};
 
     /// A bench whose device is off, and has a pad on which nothing was typed.
     pub fn start() -> Bench<M>
@@ -42,7 +69,7 @@ impl<M: Mixer> Bench<M> {
     {
         Bench {
             device: Device::off(),
-            mixer: PhantomData,
+            tables: None,
         }
     }
 
@@ -64,37 +91,156 @@ impl<M: Mixer> Bench<M> {
         self.device.event::<M, F>(flash, event)
     }
 
+    /// A command to the ledger, over the bench's chain tables, as [`apply`] answers it. Nothing is written, and the device stays
+    /// as it is. It takes memory.
+    ///
+    /// # Errors
+    ///
+    /// `Keeper` only where the keeper's count of faults rose in this call, or stands at 2^64 - 1: the tables are as before or
+    /// have the whole change. `Memory` where there is none: the tables are as before.
+    pub fn command<D: Keeper>(
+        &mut self,
+        alloc: Global,
+        keeper: &mut D,
+        command: &Command,
+    ) -> Result<Answer, LedgerFault>
+        requires { IsCommand command.now }
+        ensures same { self.new ≡ self.old }
+        ensures applied { Applies (λ t. done M.next t command.now) result (D.view keeper.old) (D.view keeper.new) }
+        ensures in_range { IfOk result AnswerIsInRange }
+    {
+        let mut tables = match self.tables.take() {
+            Some(tables) => tables,
+            None => match Tables::new(alloc) {
+                Ok(tables) => tables,
+                Err(_) => return Err(LedgerFault::Memory),
+            },
+        };
+        let answer = apply::<M, D>(alloc, keeper, &mut tables, command);
+        self.tables = Some(tables);
+        answer
+    }
+
     /// One line of at most 4,096 bytes: its steps are answered one after the other, and each answer is written, with
     /// the byte 10 behind it, before the next step is taken. A line of keys has a step for each key; every other line has
-    /// one, but an empty line, which has none. A line that begins with `{` is answered `no ledger here`, and every other
-    /// line that has no form `unread`.
+    /// one, but an empty line, which has none. A line that begins with `{` is one of the ledger, and every other line one of
+    /// the device. A line of the side that the mode leaves out is answered `no ledger here` or `no device here`, and the
+    /// keeper in `Mode::Device`, and device and flash in `Mode::Serve`, are as they were. A line of the ledger takes memory, and
+    /// no other line does.
     ///
     /// The caller sees to it that a device that is on is handed the flash as it left it.
     ///
     /// # Errors
     ///
-    /// `WriteFault` only where the sink's count of faults rose in this call, or stands at 2^64 - 1. The steps up to the
-    /// one whose answer failed have happened, and no later one; a front of their text was written, which holds every
-    /// earlier answer whole.
-    pub fn line<K: Sink, F: Flash>(
+    /// `Write` only where the sink's count of faults rose in this call, or stands at 2^64 - 1. The steps up to the one whose
+    /// answer failed have happened, and no later one; every earlier answer was written whole, and of the last one fewer bytes
+    /// than it has. `Keep` only where the keeper's count did, and `Memory`, at a line of the ledger alone and never in
+    /// `Mode::Device`: nothing was written, and device and flash are as before. At `Keep` the tables are as before or have the
+    /// whole change of the command; at `Memory` they are as before.
+    pub fn line<K: Sink, D: Keeper, F: Flash>(
         &mut self,
+        alloc: Global,
+        mode: Mode,
         line: &[u8],
+        keeper: &mut D,
         flash: &mut F,
         sink: &mut K,
-    ) -> Result<(), WriteFault>
+    ) -> Result<(), LineFault>
         requires most { length line.now ≤ 4096 }
         requires holds { Holds self.old (F.view flash.old) }
         ensures holds { Holds self.new (F.view flash.new) }
         ensures later { (F.view flash.old).faults ≤ (F.view flash.new).faults }
-        ensures cause { HasCause (K.view sink.old).faults (K.view sink.new).faults result }
-        ensures works { Works M.next (steps_of_line line.now) result self.old (F.view flash.old) (K.view sink.old) self.new (F.view flash.new) (K.view sink.new) }
+        ensures causes { HasCauses result (D.view keeper.old).faults (D.view keeper.new).faults (K.view sink.old).faults (K.view sink.new).faults }
+        ensures ledger { IsLedgerFault result → (mode ≢ Mode.Device) × (is_ledger_text (line_trimmed line.now) ≡ true) }
+        ensures unwritten { IsLedgerFault result → (self.new ≡ self.old) × (flash.new ≡ flash.old) × (sink.new ≡ sink.old) }
+        ensures keeper { mode ≡ Mode.Device → keeper.new ≡ keeper.old }
+        ensures device { mode ≡ Mode.Serve → (self.new ≡ self.old) × (flash.new ≡ flash.old) }
+        ensures works { Works M.next mode (steps_of_line mode line.now) result
+            (desk self.old (D.view keeper.old) (F.view flash.old) (K.view sink.old))
+            (desk self.new (D.view keeper.new) (F.view flash.new) (K.view sink.new)) }
     {
         let text = trimmed(line);
         if text.is_empty() {
             return Ok(());
         }
         if text[0] == b'{' {
-            return write_text(sink, b"no ledger here");
+            return self.ledger_line(alloc, mode, text, keeper, sink);
+        }
+        told(self.device_line(mode, text, flash, sink))
+    }
+
+    // The text of a line of the ledger.
+    fn ledger_line<K: Sink, D: Keeper>(
+        &mut self,
+        alloc: Global,
+        mode: Mode,
+        text: &[u8],
+        keeper: &mut D,
+        sink: &mut K,
+    ) -> Result<(), LineFault>
+        ensures same { self.new ≡ self.old }
+        ensures causes { HasCauses result (D.view keeper.old).faults (D.view keeper.new).faults (K.view sink.old).faults (K.view sink.new).faults }
+        ensures ledger { IsLedgerFault result → (mode ≢ Mode.Device) × (sink.new ≡ sink.old) }
+        ensures keeper { mode ≡ Mode.Device → keeper.new ≡ keeper.old }
+        ensures works { (flash : FlashView) → Works M.next mode (steps_of_ledger mode text.now) result
+            (desk self.old (D.view keeper.old) flash (K.view sink.old)) (desk self.new (D.view keeper.new) flash (K.view sink.new)) }
+    {
+        if mode == Mode::Device {
+            return told(write_text(sink, b"no ledger here"));
+        }
+        match read(alloc, text) {
+            Ok(command) => self.do_command(alloc, mode, &command, keeper, sink),
+            Err(fault) => {
+                if fault == TextFault::Memory {
+                    return Err(LineFault::Memory);
+                }
+                told(write_fault(sink, &fault))
+            }
+        }
+    }
+
+    // A command, and its answer.
+    fn do_command<K: Sink, D: Keeper>(
+        &mut self,
+        alloc: Global,
+        mode: Mode,
+        command: &Command,
+        keeper: &mut D,
+        sink: &mut K,
+    ) -> Result<(), LineFault>
+        requires command { IsCommand command.now }
+        requires mode { mode ≢ Mode.Device }
+        ensures same { self.new ≡ self.old }
+        ensures ledger { IsLedgerFault result → sink.new ≡ sink.old }
+        ensures causes { HasCauses result (D.view keeper.old).faults (D.view keeper.new).faults (K.view sink.old).faults (K.view sink.new).faults }
+        ensures works { (flash : FlashView) → Works M.next mode (Do command.now ∷ []) result
+            (desk self.old (D.view keeper.old) flash (K.view sink.old)) (desk self.new (D.view keeper.new) flash (K.view sink.new)) }
+    {
+        match self.command(alloc, keeper, command) {
+            Ok(answer) => told(write_answer(sink, &answer)),
+            Err(LedgerFault::Keeper) => Err(LineFault::Keep),
+            Err(LedgerFault::Memory) => Err(LineFault::Memory),
+        }
+    }
+
+    // The text of a line of the device.
+    fn device_line<K: Sink, F: Flash>(
+        &mut self,
+        mode: Mode,
+        text: &[u8],
+        flash: &mut F,
+        sink: &mut K,
+    ) -> Result<(), WriteFault>
+        requires holds { Holds self.old (F.view flash.old) }
+        ensures holds { Holds self.new (F.view flash.new) }
+        ensures later { (F.view flash.old).faults ≤ (F.view flash.new).faults }
+        ensures cause { HasCause (K.view sink.old).faults (K.view sink.new).faults result }
+        ensures device { mode ≡ Mode.Serve → (self.new ≡ self.old) × (flash.new ≡ flash.old) }
+        ensures works { (keeper : KeeperView) → Works M.next mode (steps_of_device mode text.now) (of_line result)
+            (desk self.old keeper (F.view flash.old) (K.view sink.old)) (desk self.new keeper (F.view flash.new) (K.view sink.new)) }
+    {
+        if mode == Mode::Serve {
+            return write_text(sink, b"no device here");
         }
         match asked_by(text) {
             Some(asked) => self.do_asked(asked, flash, sink),
@@ -110,8 +256,7 @@ impl<M: Mixer> Bench<M> {
     pub fn long<K: Sink>(&mut self, size: u64, sink: &mut K) -> Result<(), WriteFault>
         ensures same { self.new ≡ self.old }
         ensures cause { HasCause (K.view sink.old).faults (K.view sink.new).faults result }
-        ensures works { (flash : FlashView) →
-            Works M.next (Say (codes "long " ++ decimal size) ∷ []) result self.old flash (K.view sink.old) self.new flash (K.view sink.new) }
+        ensures works { Says M.next (Say (codes "long " ++ decimal size) ∷ []) result (K.view sink.old) (K.view sink.new) }
     {
         let mut text = Line::new();
         text.push(b"long");
@@ -131,7 +276,7 @@ impl<M: Mixer> Bench<M> {
         ensures holds { Holds self.new (F.view flash.new) }
         ensures later { (F.view flash.old).faults ≤ (F.view flash.new).faults }
         ensures cause { HasCause (K.view sink.old).faults (K.view sink.new).faults result }
-        ensures works { Works M.next (map Act (events_of asked.entry)) result self.old (F.view flash.old) (K.view sink.old) self.new (F.view flash.new) (K.view sink.new) }
+        ensures works { DeviceWorks M.next (map Act (events_of asked.entry)) result self.old (F.view flash.old) (K.view sink.old) self.new (F.view flash.new) (K.view sink.new) }
     {
         match asked {
             Asked::One(event) => self.answer(event, flash, sink),
@@ -151,7 +296,7 @@ impl<M: Mixer> Bench<M> {
         ensures holds { Holds self.new (F.view flash.new) }
         ensures later { (F.view flash.old).faults ≤ (F.view flash.new).faults }
         ensures cause { HasCause (K.view sink.old).faults (K.view sink.new).faults result }
-        ensures works { Works M.next (map Act (presses text.now)) result self.old (F.view flash.old) (K.view sink.old) self.new (F.view flash.new) (K.view sink.new) }
+        ensures works { DeviceWorks M.next (map Act (presses text.now)) result self.old (F.view flash.old) (K.view sink.old) self.new (F.view flash.new) (K.view sink.new) }
     {
         for byte in text {
             match self.key(*byte, flash, sink) {
@@ -174,7 +319,7 @@ impl<M: Mixer> Bench<M> {
         ensures holds { Holds self.new (F.view flash.new) }
         ensures later { (F.view flash.old).faults ≤ (F.view flash.new).faults }
         ensures cause { HasCause (K.view sink.old).faults (K.view sink.new).faults result }
-        ensures works { Works M.next (map Act (presses (key ∷ []))) result self.old (F.view flash.old) (K.view sink.old) self.new (F.view flash.new) (K.view sink.new) }
+        ensures works { DeviceWorks M.next (map Act (presses (key ∷ []))) result self.old (F.view flash.old) (K.view sink.old) self.new (F.view flash.new) (K.view sink.new) }
     {
         if key == b' ' {
             return Ok(());
@@ -194,9 +339,19 @@ impl<M: Mixer> Bench<M> {
         ensures holds { Holds self.new (F.view flash.new) }
         ensures later { (F.view flash.old).faults ≤ (F.view flash.new).faults }
         ensures cause { HasCause (K.view sink.old).faults (K.view sink.new).faults result }
-        ensures works { Works M.next (Act event ∷ []) result self.old (F.view flash.old) (K.view sink.old) self.new (F.view flash.new) (K.view sink.new) }
+        ensures works { DeviceWorks M.next (Act event ∷ []) result self.old (F.view flash.old) (K.view sink.old) self.new (F.view flash.new) (K.view sink.new) }
     {
         let reply = self.event(flash, event);
         write_reply(sink, reply)
+    }
+}
+
+// A fault of the sink is one of the line.
+fn told(outcome: Result<(), WriteFault>) -> Result<(), LineFault>
+    ensures { result ≡ of_line outcome }
+{
+    match outcome {
+        Ok(()) => Ok(()),
+        Err(WriteFault) => Err(LineFault::Write),
     }
 }

@@ -1,8 +1,10 @@
 // What the lines of a device mean.
 ghost use Rattle.std.specs.Prelude.{◌≡◌, true, codes, IfSome};
 ghost use Rattle.std.specs.Option.{option_map};
-ghost use Rattle.paygo_spec.specs.Words.{are_key_text, config_in, divider_in, divides_day, events_in, form_in, is_key_text, keys_in, make_in, presses, tick_in, word_in};
-ghost use Rattle.paygo_spec.specs.Machine.{IsConfig, IsEvent, trimmed as line_trimmed};
+ghost use Rattle.run_spec.specs.DeviceLines.{are_key_text, config_in, divider_in, events_in, form_in, is_key_text, keys_in, make_in, presses, tick_in, word_in};
+ghost use Rattle.paygo_spec.specs.Clock.{divides_day};
+ghost use Rattle.paygo_spec.specs.Machine.{IsConfig, IsEvent};
+ghost use Rattle.run_spec.specs.Meaning.{trimmed as line_trimmed};
 ghost use Rattle.bench_run.specs.Asked.{events_of, IsAsked};
 
 use line_text::{after_prefix, first_word, key, number};
@@ -150,7 +152,18 @@ fn read_show(line: &[u8]) -> Option<Event>
     }
 }
 
-// What a line asks for, where it has one of the five forms.
+// `raise`
+fn read_raise(line: &[u8]) -> Option<Event>
+    ensures { result ≡ word_in (codes "raise") Event.Raise line.now }
+{
+    if line == b"raise".as_slice() {
+        Some(Event::Raise)
+    } else {
+        None
+    }
+}
+
+// What a line asks for, where it has one of the six forms.
 pub(crate) fn asked_by(line: &[u8]) -> Option<Asked<'_>>
     ensures value { option_map events_of result ≡ events_in line.now }
     ensures range { IfSome result IsAsked }
@@ -167,7 +180,10 @@ pub(crate) fn asked_by(line: &[u8]) -> Option<Asked<'_>>
     if let Some(event) = read_tick(line) {
         return Some(Asked::One(event));
     }
-    match read_show(line) {
+    if let Some(event) = read_show(line) {
+        return Some(Asked::One(event));
+    }
+    match read_raise(line) {
         Some(event) => Some(Asked::One(event)),
         None => None,
     }

@@ -1,5 +1,5 @@
-// What stands between the bytes of a program and its device: lines are cut out of the input, each line is taken to the
-// device, and its answers are written.
+// What stands between the bytes of a program and its ledger and device: lines are cut out of the input, each line is taken
+// to the one or the other, and its answers are written.
 #![tactic(auto)]
 
 mod bench;
@@ -7,5 +7,6 @@ mod device_lines;
 mod lines;
 mod output;
 
-pub use bench::Bench;
+pub use bench::{Bench, LineFault};
 pub use lines::{LINE_SIZE, Lines, LinesFault, Next};
+pub use run_spec::Mode;

@@ -2,16 +2,20 @@
 ghost use Rattle.std.specs.Prelude.{◌≡◌, ◌≤◌, ◌++◌, ◌∷◌, [], Some, length};
 ghost use Rattle.std.specs.Option.{option_map};
 ghost use Rattle.paygo_spec.specs.Faults.{HasCause};
-ghost use Rattle.paygo_spec.specs.Machine.{Said, Told};
-ghost use Rattle.paygo_spec.specs.Text.{line_of as line_of_answer};
+ghost use Rattle.ledger_spec.specs.AnswerText.{text_of_fault};
+ghost use Rattle.ledger_spec.specs.Ledger.{AnswerIsInRange};
+ghost use Rattle.run_spec.specs.Run.{Said, Did, Told};
+ghost use Rattle.run_spec.specs.Text.{line_of as line_of_answer};
 ghost use Rattle.bench_run.specs.Bench.{Wrote};
 
 use device_core::line as line_of;
+use ledger_spec::{Answer, TextFault};
+use ledger_text::{answer_line, fault_line};
 use line_text::Line;
 use paygo_outside::{Sink, WriteFault};
 use paygo_spec::Reply;
 
-// Writes all of the bytes, or a front of them.
+// Writes all of the bytes, or where the sink fails the first of them, fewer than all.
 fn write_all<K: Sink>(sink: &mut K, bytes: &[u8]) -> Result<(), WriteFault>
     ensures wrote { Wrote bytes.now result (K.view sink.old) (K.view sink.new) }
     ensures cause { HasCause (K.view sink.old).faults (K.view sink.new).faults result }
@@ -26,17 +30,24 @@ fn write_all<K: Sink>(sink: &mut K, bytes: &[u8]) -> Result<(), WriteFault>
     Ok(())
 }
 
+// Writes a line of at most 511 bytes, and its end.
+fn write_line<K: Sink>(sink: &mut K, line: Line) -> Result<(), WriteFault>
+    requires { length line ≤ 511 }
+    ensures wrote { Wrote (line ++ 10 ∷ []) result (K.view sink.old) (K.view sink.new) }
+    ensures cause { HasCause (K.view sink.old).faults (K.view sink.new).faults result }
+{
+    let mut whole = line;
+    whole.push(b"\n");
+    write_all(sink, whole.as_bytes())
+}
+
 // Writes the line of a reply, where there is one.
 pub(crate) fn write_reply<K: Sink>(sink: &mut K, reply: Option<Reply>) -> Result<(), WriteFault>
     ensures wrote { Wrote (line_of_answer (option_map Told reply)) result (K.view sink.old) (K.view sink.new) }
     ensures cause { HasCause (K.view sink.old).faults (K.view sink.new).faults result }
 {
     match reply {
-        Some(reply) => {
-            let mut line = line_of(&reply);
-            line.push(b"\n");
-            write_all(sink, line.as_bytes())
-        }
+        Some(reply) => write_line(sink, line_of(&reply)),
         None => write_all(sink, b""),
     }
 }
@@ -49,6 +60,22 @@ pub(crate) fn write_text<K: Sink>(sink: &mut K, text: &[u8]) -> Result<(), Write
 {
     let mut line = Line::new();
     line.push(text);
-    line.push(b"\n");
-    write_all(sink, line.as_bytes())
+    write_line(sink, line)
+}
+
+// Writes the line of the ledger's answer.
+pub(crate) fn write_answer<K: Sink>(sink: &mut K, answer: &Answer) -> Result<(), WriteFault>
+    requires { AnswerIsInRange answer.now }
+    ensures wrote { Wrote (line_of_answer (Some (Did answer.now))) result (K.view sink.old) (K.view sink.new) }
+    ensures cause { HasCause (K.view sink.old).faults (K.view sink.new).faults result }
+{
+    write_line(sink, answer_line(answer))
+}
+
+// Writes the line that refuses a line of the ledger without a command.
+pub(crate) fn write_fault<K: Sink>(sink: &mut K, fault: &TextFault) -> Result<(), WriteFault>
+    ensures wrote { Wrote (line_of_answer (Some (Said (text_of_fault fault.now)))) result (K.view sink.old) (K.view sink.new) }
+    ensures cause { HasCause (K.view sink.old).faults (K.view sink.new).faults result }
+{
+    write_line(sink, fault_line(fault))
 }

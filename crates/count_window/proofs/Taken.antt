@@ -12,23 +12,25 @@ use Rattle.paygo_spec.proofs.Counts.{unspent_above}
 use Rattle.paygo_spec.proofs.Windows.{same_spent}
 use Rattle.count_window.specs.Bits.{HasBits}
 
-module _ (last bits : ℕ) (start : Summary) (entries : List Entry) (w : StandsFor last bits start entries) (n v b : ℕ) where
-  pub take_odd : last < n → is_odd n ≡ true → HasBits b (λ i. if nat_lt i n then 1 else 0) → StandsFor (max last n) b start (Accept n v ∷ entries)
+module _ (limit last bits : ℕ) (start : Summary) (entries : List Entry) (w : StandsFor limit last bits start entries) (n v b : ℕ) where
+  pub take_odd : last < n → is_odd n ≡ true → HasBits b (λ i. if nat_lt i n then 1 else 0) → StandsFor limit (max last n) b start (Accept n v ∷ entries)
   take_odd h o k =
       let e : last ≡ top start entries = w.top_is in
       let t : max last n ≡ n = omega arith in
       rw t (record {
+        limit_is = w.limit_is;
         top_is = omega arith;
         fits = k.0;
         spent_is = λ i m l q r. let z : bit_at b i ≡ (if nat_lt i n then 1 else 0) = k.1 i l in grind (arith, nat_tests);
         no_count = λ i l. ⊎_elim (λ (lo : i < 16). let z : bit_at b i ≡ (if nat_lt i n then 1 else 0) = k.1 i lo in grind (arith, nat_tests)) (λ (hi : 16 ≤ i). bit_at_above b 16 i k.0 hi) (cases_lt i 16);
       })
 
-  pub take_up : last < n → is_odd n ≡ false → HasBits b (λ i. if i == 0 then 1 else if nat_lt i (n - last) then 0 else bit_at bits (i - (n - last))) → StandsFor (max last n) b start (Accept n v ∷ entries)
+  pub take_up : last < n → is_odd n ≡ false → HasBits b (λ i. if i == 0 then 1 else if nat_lt i (n - last) then 0 else bit_at bits (i - (n - last))) → StandsFor limit (max last n) b start (Accept n v ∷ entries)
   take_up h o k =
       let e : last ≡ top start entries = w.top_is in
       let t : max last n ≡ n = omega arith in
       rw t (record {
+        limit_is = w.limit_is;
         top_is = omega arith;
         fits = k.0;
         spent_is = λ i m l q r.
@@ -43,11 +45,12 @@ module _ (last bits : ℕ) (start : Summary) (entries : List Entry) (w : StandsF
             (λ (hi : 16 ≤ i). bit_at_above b 16 i k.0 hi) (cases_lt i 16);
       })
 
-  pub take_down : n ≤ last → 1 ≤ n → is_odd n ≡ false → HasBits b (λ i. if i == last - n then 1 else bit_at bits i) → StandsFor (max last n) b start (Accept n v ∷ entries)
+  pub take_down : n ≤ last → 1 ≤ n → is_odd n ≡ false → HasBits b (λ i. if i == last - n then 1 else bit_at bits i) → StandsFor limit (max last n) b start (Accept n v ∷ entries)
   take_down h p o k =
       let e : last ≡ top start entries = w.top_is in
       let t : max last n ≡ last = omega arith in
       rw t (record {
+        limit_is = w.limit_is;
         top_is = omega arith;
         fits = k.0;
         spent_is = λ i m l q r.
@@ -61,8 +64,8 @@ module _ (last bits : ℕ) (start : Summary) (entries : List Entry) (w : StandsF
       })
 
 -- an even count is valid where it is open
-pub even_valid : (greatest : ℕ) (start : Summary) (entries : List Entry) (last bits m v : ℕ) (is_open : Bool) → StandsFor last bits start entries → 1 ≤ m → m ≤ reach greatest start entries v → is_odd m ≡ false → v ≤ 995 → is_open ≡ (nat_lt last (m + 16) && not (spent (alone last bits) [] m)) → (IsTrue is_open ↔ Valid greatest start entries m v)
-even_valid greatest start entries last bits m v is_open w p r o l e =
+pub even_valid : (start : Summary) (entries : List Entry) (limit last bits m v : ℕ) (is_open : Bool) → StandsFor limit last bits start entries → 1 ≤ m → m ≤ reach start entries v → is_odd m ≡ false → v ≤ 995 → is_open ≡ (nat_lt last (m + 16) && not (spent (alone limit last bits) [] m)) → (IsTrue is_open ↔ Valid start entries m v)
+even_valid start entries limit last bits m v is_open w p r o l e =
     let t : last ≡ top start entries = w.top_is in
-    let q : last < m + 16 → spent start entries m ≡ spent (alone last bits) [] m = same_spent start entries last bits m w p in
+    let q : last < m + 16 → spent start entries m ≡ spent (alone limit last bits) [] m = same_spent start entries limit last bits m w p in
     rw e (grind (arith, nat_tests))

@@ -12,7 +12,7 @@ const AT_THE_END: (u16, u16) = (4095, 0xFFFF);
 
 /// Compares what a window says of tokens, each by its count and its value, with what is wanted.
 fn compare(rt: &impl Abort, (last, bits): (u16, u16), rows: &[(u16, u16, bool)]) {
-    let window = Window::of_parts(last, bits).expect(rt, "a window");
+    let window = Window::of_parts(LAST, last, bits).expect(rt, "a window");
     for &(count, value, want) in rows {
         assert_eq!(rt;
             window.may(count, value),
@@ -123,7 +123,7 @@ fn tells_the_reach(rt: HostRuntime) {
         (AT_THE_END, 999, 4095),
     ];
     for ((last, bits), value, want) in rows {
-        let window = Window::of_parts(last, bits);
+        let window = Window::of_parts(LAST, last, bits);
         assert_eq!(rt;
             window.map(|w| w.reach(value)),
             Some(want),
@@ -159,7 +159,7 @@ fn takes_tokens(rt: HostRuntime) {
         (NEAR_THE_END, 4095, 999, AT_THE_END),
     ];
     for ((last, bits), count, value, want) in rows {
-        let mut window = Window::of_parts(last, bits).expect(&rt, "a window");
+        let mut window = Window::of_parts(LAST, last, bits).expect(&rt, "a window");
         assert!(rt;
             hand_in(&mut window, count, value),
             "{last} {bits}: {count} {value}"
@@ -224,8 +224,27 @@ fn keeps_the_rule_on_windows(rt: HostRuntime) {
         ((41, 0x7FFF), false),
     ];
     for ((last, bits), want) in rows {
-        let window = Window::of_parts(last, bits);
+        let window = Window::of_parts(LAST, last, bits);
         assert_eq!(rt; window.is_some(), want, "{last} {bits}");
         assert_eq!(rt; window.map_or((last, bits), |w| w.parts()), (last, bits));
     }
+}
+
+#[test]
+fn raises_the_limit(rt: HostRuntime) {
+    let mut window = Window::of_parts(LAST, 4095, 0xFFFF).expect(&rt, "a window");
+    assert_eq!(rt; (window.limit(), window.may(4096, 5)), (4095, false));
+    window.raise();
+    assert_eq!(rt; (window.limit(), window.parts()), (16_383, (4095, 0xFFFF)));
+    assert_eq!(rt;
+        (
+            window.may(4096, 5),
+            window.may(4159, 998),
+            window.may(4161, 0)
+        ),
+        (true, true, false)
+    );
+    let last = Window::of_parts(GREAT, 16_383, 0xFFFF);
+    assert_eq!(rt; last.map(|w| w.reach(999)), Some(16_383));
+    assert_eq!(rt; Window::of_parts(GREAT, 16_384, 0b1), None);
 }

@@ -2,7 +2,6 @@
 use Rattle.std.proofs.Common.{◌≡◌, ℕ, ◌≤◌, Bool, true, false, ◌==◌, nat_lt, List, [], length, take, if◌then◌else◌, Option, Some, None, refl, sym, ap, ◌∙◌, arith, subst, ⊎_elim, lit≤}
 use Rattle.std.proofs.lemmas.Bool.{cases_Bool}
 use Rattle.std.proofs.lemmas.Bool.Decides.{nat_tests}
-use Rattle.paygo_spec.specs.declared.TheConstants.{LAST}
 use Rattle.paygo_spec.specs.declared.Config.{Config}
 use Rattle.paygo_spec.specs.declared.Form.{Form}
 use Rattle.paygo_spec.specs.declared.Form.TheVariants.{Nine, Fifteen}
@@ -77,12 +76,12 @@ place_within form digits place is = (is_first_fault form digits place is).inside
 
 -- what the window finds is what the summary says
 pub found_is : (next : List ℕ → ℕ → ℕ) (journal : JournalView) (config : Config) (parts : Parts) (token : ℕ) (answer : Found) → config ≡ journal.config → summary_of parts ≡ journal.summary
-    → answer ≡ found (next config.key) config.start LAST (alone parts.window.last parts.window.bits) [] token → decided_found journal answer ≡ decided_found journal (found_in next journal token)
+    → answer ≡ found (next config.key) config.start (alone parts.window.limit parts.window.last parts.window.bits) [] token → decided_found journal answer ≡ decided_found journal (found_in next journal token)
 found_is next journal config parts token answer same known is =
-    let at_config : found (next config.key) config.start LAST (summary_of parts) [] token ≡ found (next journal.config.key) journal.config.start LAST (summary_of parts) [] token =
-    ap (λ (c : Config). found (next c.key) c.start LAST (summary_of parts) [] token) same in
-    let at_summary : found (next journal.config.key) journal.config.start LAST (summary_of parts) [] token ≡ found_in next journal token =
-    ap (λ (s : Summary). found (next journal.config.key) journal.config.start LAST s [] token) known in
+    let at_config : found (next config.key) config.start (summary_of parts) [] token ≡ found (next journal.config.key) journal.config.start (summary_of parts) [] token =
+    ap (λ (c : Config). found (next c.key) c.start (summary_of parts) [] token) same in
+    let at_summary : found (next journal.config.key) journal.config.start (summary_of parts) [] token ≡ found_in next journal token =
+    ap (λ (s : Summary). found (next journal.config.key) journal.config.start s [] token) known in
     ap (decided_found journal) (is ∙ at_config ∙ at_summary)
 
 -- seconds after which the clock shows the same, and others
@@ -100,7 +99,7 @@ seconds_other unit summary parts seconds clock known is other =
     (let test : shows_same (clock_after unit (Elapsed seconds) parts.clock) parts.clock ≡ false = subst (λ (c : ClockView). shows_same c parts.clock ≡ false) is other in rw test refl)
 
 -- what is decided may be carried out
-may_found : (journal : JournalView) (answer : Found) → journal.summary.block ≡ 0 → IfValid answer (λ count value. is_valid LAST journal.summary [] count value ≡ true)
+may_found : (journal : JournalView) (answer : Found) → journal.summary.block ≡ 0 → IfValid answer (λ count value. is_valid journal.summary [] count value ≡ true)
     → MayDo journal (decided_found journal answer)
 may_found journal (Valid count value) open_ valid = rw (open_, valid) refl
 may_found journal (Old count) open_ valid = λ e. cc
@@ -113,7 +112,7 @@ may_token next journal token =
     (λ (b : nat_lt 0 journal.summary.block ≡ false).
     let none : journal.summary.block ≡ 0 = grind (arith, nat_tests) in
     rw b (may_found journal (found_in next journal token) none
-    (may_take (next journal.config.key) journal.config.start LAST journal.summary [] token (found_in next journal token) refl)))
+    (may_take (next journal.config.key) journal.config.start journal.summary [] token (found_in next journal token) refl)))
     (cases_Bool (nat_lt 0 journal.summary.block))
 
 may_digits : (next : List ℕ → ℕ → ℕ) (journal : JournalView) (token : ℕ) (fault : Option ℕ)
@@ -146,6 +145,6 @@ may_seconds journal unit seconds most =
     (λ (b : shows_same (clock_after unit (Elapsed seconds) (clock_at_start journal.summary)) (clock_at_start journal.summary) ≡ true). rw b (λ e. cc))
     (λ (b : shows_same (clock_after unit (Elapsed seconds) (clock_at_start journal.summary)) (clock_at_start journal.summary) ≡ false).
     let least : 1 ≤ seconds = some_second journal.summary seconds unit b in
-    let test : follows LAST journal.summary (Elapsed seconds) ≡ true = grind (arith, nat_tests) in
+    let test : follows journal.summary (Elapsed seconds) ≡ true = grind (arith, nat_tests) in
     rw b test)
     (cases_Bool (shows_same (clock_after unit (Elapsed seconds) (clock_at_start journal.summary)) (clock_at_start journal.summary)))

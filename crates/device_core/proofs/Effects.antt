@@ -3,16 +3,15 @@ use Rattle.std.proofs.Common.{◌≡◌, ◌≢◌, ℕ, ◌+◌, ◌-◌, ◌�
 use Rattle.std.proofs.lemmas.Bool.{and_parts}
 use Rattle.std.proofs.lemmas.Bool.Decides.{nat_tests}
 use Rattle.std.proofs.Math.Seq.{take-append_seam, take-append-add}
-use Rattle.paygo_spec.specs.declared.TheConstants.{LAST}
 use Rattle.paygo_spec.specs.declared.Form.{Form}
 use Rattle.paygo_spec.specs.declared.Entry.{Entry}
 use Rattle.paygo_spec.specs.declared.Entry.TheVariants.{Elapsed}
 use Rattle.paygo_spec.specs.declared.Event.{Event}
-use Rattle.paygo_spec.specs.declared.Event.TheVariants.{Power, Make, Key, Tick, Show}
+use Rattle.paygo_spec.specs.declared.Event.TheVariants.{Power, Make, Key, Tick, Show, Raise}
 use Rattle.paygo_spec.specs.declared.Reply.{Reply}
 use Rattle.paygo_spec.specs.declared.Reply.TheVariants as reply_is
 use Rattle.paygo_spec.specs.Digits.{digit_count}
-use Rattle.paygo_spec.specs.History.{Summary}
+use Rattle.paygo_spec.specs.History.{Summary, raised_limit, limit_of}
 use Rattle.paygo_spec.specs.Pad.{Keys, handed_over, held_of}
 use Rattle.paygo_spec.specs.Recovery.{JournalView}
 use Rattle.paygo_spec.specs.Recovery as recovered
@@ -21,7 +20,7 @@ use Rattle.paygo_spec.specs.Machine as machine
 use Rattle.paygo_spec.specs.Machine.{History, Journal, Effect, StandsAs, IsEvent, unit_for, gone_on, clock_at, shows_same, effect_of_typed, typed_on, effect_of}
 use Rattle.token_decode.proofs.Entering.{snapshot_typed}
 use Rattle.device_core.specs.declared.decision.Decision.{Decision}
-use Rattle.device_core.specs.declared.decision.Decision.TheVariants.{Answers, Adds}
+use Rattle.device_core.specs.declared.decision.Decision.TheVariants.{Answers, Adds, Raises}
 use Rattle.device_core.specs.Decided.{typed_by, decided_by, decided_entry, decided}
 use Rattle.device_core.proofs.Stands.{journal_of, IsLawful}
 use Rattle.device_core.proofs.Deciding.{at_most}
@@ -35,6 +34,7 @@ abbrev pub IsEffect : JournalView → History → Option Decision → Effect →
 IsEffect journal history None (machine.Answers answer entries) = (answer ≡ None) × GoesOn journal history entries
 IsEffect journal history (Some (Answers reply)) (machine.Answers answer entries) = (answer ≡ Some reply) × GoesOn journal history entries
 IsEffect journal history (Some (Adds entry)) (machine.Adds added) = added ≡ entry
+IsEffect journal history (Some Raises) machine.Raises = Unit {0}
 IsEffect journal history _ _ = ⊥
 
 -- what a pad hands over, where it is as long as a form
@@ -93,7 +93,7 @@ module _ (next : List ℕ → ℕ → ℕ) (history : History) (bank : ℕ) (law
       let digits : take (held_of keys) (handed_over keys.pressed) ≡ keys.pressed = whole_entry keys history.config.form is in
       let same : typed_by next journal (take (held_of keys) (handed_over keys.pressed)) ≡ typed_on next history keys.pressed =
       ap (typed_by next journal) digits
-      ∙ snapshot_typed (next history.config.key) (unit_for history) history.config.start LAST history.config.form history.start history.entries keys.pressed in
+      ∙ snapshot_typed (next history.config.key) (unit_for history) history.config.start history.config.form history.start history.entries keys.pressed in
       subst (λ (t : Typed). Is (Some (decided_by t)) (effect_of_typed history (typed_on next history keys.pressed))) (sym same) (of_typed (typed_on next history keys.pressed))
   of_entry keys false is = of_length keys _ (length keys.pressed == digit_count history.config.form) (other_length keys history.config.form is)
 
@@ -118,9 +118,14 @@ module _ (next : List ℕ → ℕ → ℕ) (history : History) (bank : ℕ) (law
   of_seconds seconds reply true goes = (refl, goes refl)
   of_seconds seconds reply false goes = refl
 
+  of_raise : (raised : Bool) → Is (Some (if raised then Answers reply_is.Raised else Raises)) (if raised then machine.Answers (Some reply_is.Raised) history.entries else machine.Raises)
+  of_raise true = (refl, still)
+  of_raise false = tt
+
   pub effects : (keys : Keys) (event : Event) → IsEvent event → Is (decided next journal keys event) (effect_of next history keys event)
   effects keys Power may = (refl, still)
   effects keys (Make config) may = (refl, still)
   effects keys (Key key) may = of_key keys (key == 35)
   effects keys (Tick seconds) may = of_seconds seconds _ _ (same_after seconds may)
   effects keys Show may = (refl, still)
+  effects keys Raise may = of_raise (limit_of history.start history.entries == raised_limit)

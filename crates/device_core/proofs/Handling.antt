@@ -1,13 +1,12 @@
 -- What the machine does at an event, for a device that is on.
 use Rattle.std.proofs.Common.{◌≡◌, ◌≢◌, ℕ, Bool, true, false, ◌==◌, List, if◌then◌else◌, Option, Some, None, IfSome, refl, ap}
-use Rattle.std.specs.Option.{option_map}
 use Rattle.paygo_spec.specs.declared.Event.{Event}
-use Rattle.paygo_spec.specs.declared.Event.TheVariants.{Power, Make, Key, Tick, Show}
+use Rattle.paygo_spec.specs.declared.Event.TheVariants.{Power, Make, Key, Tick, Show, Raise}
 use Rattle.paygo_spec.specs.declared.Reply.{Reply}
 use Rattle.paygo_spec.specs.declared.Reply.TheVariants as reply_is
 use Rattle.paygo_spec.specs.Flash.{FlashView}
 use Rattle.paygo_spec.specs.Pad.{Keys}
-use Rattle.paygo_spec.specs.Machine.{Act, Told, State, Acts, ActsIf, Goes, GoesBy, Takes, calls_on, calls_of, only}
+use Rattle.paygo_spec.specs.Machine.{State, Acts, ActsIf, Goes, GoesBy, calls_on, calls_of, only}
 use Rattle.device_core.specs.declared.device.Device.{Device}
 use Rattle.device_core.specs.declared.device.Phase.TheVariants.{Off}
 use Rattle.device_core.specs.Memory.{Backs, Holds}
@@ -17,16 +16,13 @@ pub acts_other : (next : List ℕ → ℕ → ℕ) (event : Event) (reply : Opti
 acts_other next Power reply old new other acts = absurd (other refl)
 acts_other next _ reply old new other acts = acts
 
-pub takes_act : (next : List ℕ → ℕ → ℕ) (event : Event) (reply : Option Reply) (old new : State) → Acts next event reply old new → Takes next (Act event) (option_map Told reply) old new
-takes_act next event None old new acts = acts
-takes_act next event (Some reply) old new acts = acts
-
 pub calls_other : (next : List ℕ → ℕ → ℕ) (event : Event) (state : State) → event ≢ Power → state.on ≡ true → calls_of next state event ≡ Some (calls_on next state.stored state.keys event)
 calls_other next Power state other on = absurd (other refl)
 calls_other next (Make config) state other on = ap (λ (b : Bool). if b then Some (calls_on next state.stored state.keys (Make config)) else Some 0) on
 calls_other next (Key key) state other on = ap (λ (b : Bool). if b then Some (calls_on next state.stored state.keys (Key key)) else Some 0) on
 calls_other next (Tick seconds) state other on = ap (λ (b : Bool). if b then Some (calls_on next state.stored state.keys (Tick seconds)) else Some 0) on
 calls_other next Show state other on = ap (λ (b : Bool). if b then Some (calls_on next state.stored state.keys Show) else Some 0) on
+calls_other next Raise state other on = ap (λ (b : Bool). if b then Some (calls_on next state.stored state.keys Raise) else Some 0) on
 
 pub goes_on : (reply : Option Reply) (keys : Keys) (old new : State) → reply ≢ Some reply_is.Down → Goes true keys old new → GoesBy reply keys old new
 goes_on None keys old new other goes = goes
@@ -60,3 +56,4 @@ only_fair (Make config) reply other = some_fair reply other
 only_fair (Key key) reply other = key_fair reply (key == 35) other
 only_fair (Tick seconds) reply other = some_fair reply other
 only_fair Show reply other = some_fair reply other
+only_fair Raise reply other = some_fair reply other

@@ -12,7 +12,7 @@ use Rattle.paygo_spec.specs.Recovery.{JournalView, recover}
 use Rattle.paygo_spec.specs.Recovery as recovered
 use Rattle.paygo_spec.specs.Machine.{History, Stored, Blank, Broken, Journal, StandsAs, State, IsEvent, keys_after, effect_of, calls_on}
 use Rattle.device_core.specs.declared.decision.Decision.{Decision}
-use Rattle.device_core.specs.declared.decision.Decision.TheVariants.{Answers, Adds}
+use Rattle.device_core.specs.declared.decision.Decision.TheVariants.{Answers, Adds, Raises}
 use Rattle.device_core.specs.declared.device.Device.{Device}
 use Rattle.device_core.specs.declared.device.Phase.{Phase}
 use Rattle.device_core.specs.declared.device.Phase.TheVariants.{Up}
@@ -21,7 +21,7 @@ use Rattle.device_core.specs.Memory.{Holds, Recalls, IsDown, Costs}
 use Rattle.device_core.specs.Changes.{Stays, CarriedOut, Asked, Handled, settled}
 use Rattle.device_core.proofs.Stands.{becomes_backs, journal_of, journal_is, IsLawful}
 use Rattle.device_core.proofs.Effects.{IsEffect, effects}
-use Rattle.device_core.proofs.Going.{Went, Fell, Moved, OneOf, one_of, went}
+use Rattle.device_core.proofs.Going.{Went, Fell, Moved, OneOf, one_of, OneOfRaise, one_of_raise, went}
 use Rattle.device_core.proofs.Handling.{goes_on, settled_other, off_holds}
 use Rattle.device_core.proofs.Recalling.{Reacts, remembers_made, handled_on}
 
@@ -43,10 +43,17 @@ module _ (old : JournalView) (was : FlashView) (new : JournalView) (now : FlashV
   adds_kept entry reply (inr (inr (full, down, ok))) =
       Keeps (λ e. down (let same : reply ≡ reply_is.Down = cc in same)) ok.calls.later ok.calls.up (becomes_backs was.words now.words (recovered.Made new) ok.words)
 
+  raises_kept : (reply : Reply) → OneOfRaise old was reply new now → Kept was (Some reply) new now
+  raises_kept reply (inl (worn, none, stays)) = stays_kept (Some reply) (λ e. (let bad : reply_is.Worn ≡ reply_is.Down = cc in cc)) stays
+  raises_kept reply (inr (inl (down, cut))) = Falls (ap Some down) cut.calls.later cut.calls.rose
+  raises_kept reply (inr (inr (full, down, ok))) =
+      Keeps (λ e. down (let same : reply ≡ reply_is.Down = cc in same)) ok.calls.later ok.calls.up (becomes_backs was.words now.words (recovered.Made new) ok.words)
+
   pub kept : (decision : Option Decision) (reply : Option Reply) → IfSome decision (MayDo old) → CarriedOut decision old was reply new now → Kept was reply new now
   kept None reply may (none, stays) = stays_kept reply (λ e. (let bad : None ≡ Some reply_is.Down = sym none ∙ e in cc)) stays
   kept (Some (Answers said)) (Some reply) may (same, stays) = stays_kept (Some reply) (λ e. may (let down : reply ≡ reply_is.Down = cc in sym same ∙ down)) stays
   kept (Some (Adds entry)) (Some reply) may adds = adds_kept entry reply (one_of entry old was reply new now adds)
+  kept (Some Raises) (Some reply) may raises = raises_kept reply (one_of_raise old was reply new now raises)
   kept (Some decision) None may did = absurd did
 
 abbrev made_device : JournalView → PadView → Device
@@ -111,7 +118,7 @@ module _ (next : List ℕ → ℕ → ℕ) (event : Event) (other : event ≢ Po
   holds_by : Kept was reply new now → Holds left now × (was.faults ≤ now.faults) × (reply ≡ Some reply_is.Down → IsDown (made_device old before) was left now)
   holds_by (Falls down later rose) =
       subst (λ (r : Option Reply). Holds (settled r (made_device new after)) now × (was.faults ≤ now.faults) × (r ≡ Some reply_is.Down → IsDown (made_device old before) was (settled r (made_device new after)) now)) (sym down)
-      (off_holds now, later, λ e. record { off = refl; rose = rose })
+      (off_holds now, later, λ e. record { off = refl; cleared = refl; rose = rose })
   holds_by (Keeps not_down later is_up backs_now) = (
     subst (λ (d : Device). Holds d now) (sym (settled_other reply (made_device new after) not_down)) record { up = λ e. is_up; words = backs_now },
     later,

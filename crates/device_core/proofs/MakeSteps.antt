@@ -1,6 +1,5 @@
 -- A device is made.
 use Rattle.std.proofs.Common.{◌≡◌, ◌≢◌, inl, inr, ℕ, Bool, true, false, List, Option, Some, None, IfSome, refl, sym, ap, ◌∙◌, arith, subst}
-use Rattle.paygo_spec.specs.declared.TheConstants.{LAST}
 use Rattle.paygo_spec.specs.declared.Config.{Config}
 use Rattle.paygo_spec.specs.declared.Event.TheVariants.{Make}
 use Rattle.paygo_spec.specs.declared.Reply.{Reply}
@@ -26,7 +25,7 @@ use Rattle.device_core.proofs.Recalling.{Reacts, handled_on}
 
 -- a new journal stands for a new device
 new_stands : (config : Config) → StandsAs (recovered.Made (new_journal config)) (Journal (new_device config))
-new_stands config = (refl, refl, sym (snapshot_start LAST (unit_for (new_device config)) fresh (fresh_keeps LAST)), fresh_keeps LAST)
+new_stands config = (refl, refl, sym (snapshot_start (unit_for (new_device config)) fresh (fresh_keeps)), fresh_keeps)
 
 -- what a cut leaves
 cut_make : (config : Config) (old new : List ℕ) → recover old ≡ recovered.Unmade → IsCutMake config old new → (after : Stored) × MayMake config (Some reply_is.Down) after × StandsAs (recover new) after
@@ -119,7 +118,7 @@ module _ (next : List ℕ → ℕ → ℕ) (config : Config) (pad : PadView) (wa
   down_handled begun =
       handled_on next (Make config) (λ e. cc) old was (Some reply_is.Down) off_device now holds refl
       (λ state recalled. cut_by begun state.on state.stored state.keys state.faults recalled.fits recalled.faults_are)
-      (off_holds now) begun.1.later (λ e. record { off = refl; rose = begun.1.rose }) (λ recalled. (λ e. refl, λ e. recalled))
+      (off_holds now) begun.1.later (λ e. record { off = refl; cleared = refl; rose = begun.1.rose }) (λ recalled. (λ e. refl, λ e. recalled))
 
   made_here : (phase : Phase) (reply : Reply) → Begins config phase reply was now → Handled next (Make config) old was (Some reply) (settled (Some reply) (record { phase = phase; pad = pad })) now
   made_here (Up journal) reply begun =
@@ -127,7 +126,7 @@ module _ (next : List ℕ → ℕ → ℕ) (config : Config) (pad : PadView) (wa
       (up_handled journal (begun.0, refl, begun.2, begun.3))
   made_here Off reply_is.Down begun = down_handled begun
   made_here Off (reply_is.Made number) strange =
-      strange_handled (reply_is.Made number) (record { phase = Off; pad = pad }) (λ e. cc) record { up = λ e. cc; words = untold_if now.words _ (rw strange.words strange.untold) } strange refl
+      strange_handled (reply_is.Made number) (record { phase = Off; pad = pad }) (λ e. cc) record { up = λ e. cc; words = untold_if now.words _ (rw strange.words strange.untold) } strange (refl, refl)
   made_here (Damaged place) (reply_is.Damaged word) (same, strange) =
       strange_handled (reply_is.Damaged word) (record { phase = Damaged place; pad = pad }) (λ e. cc) record { up = λ e. strange.up; words = untold_if now.words _ (rw strange.words strange.untold) } strange
       (ap (λ (w : ℕ). Some (recovered.Damaged w)) (sym same), refl)

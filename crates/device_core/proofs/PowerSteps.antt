@@ -41,7 +41,7 @@ module _ (next : List ℕ → ℕ → ℕ) (old : Device) (was now : FlashView) 
   off_started (same, failed, short) = record {
     holds = off_holds now;
     later = failed.later;
-    down = λ e. record { off = refl; rose = failed.rose };
+    down = λ e. record { off = refl; cleared = refl; rose = failed.rose };
     step = λ state agrees. (
       record { on = false; stored = state.stored; keys = no_keys; faults = now.faults },
       (refl, record { off = refl; cleared = refl; later = (let f = agrees.stand.faults in let l = failed.later in omega arith); rose = subst (λ (n : ℕ). Rose n now.faults) (sym agrees.stand.faults) failed.rose }),

@@ -1,6 +1,5 @@
 -- A device does as the machine does by what it has in memory, and where its flash tells words, by those too.
 use Rattle.std.proofs.Common.{◌≡◌, ◌≢◌, ℕ, ◌≤◌, Bool, true, List, Option, Some, IfSome, refl, sym, ap, ◌∙◌, subst}
-use Rattle.std.specs.Option.{option_map}
 use Rattle.paygo_spec.specs.declared.Config.{Config}
 use Rattle.paygo_spec.specs.declared.Event.{Event}
 use Rattle.paygo_spec.specs.declared.Event.TheVariants.{Power, Make}
@@ -9,14 +8,14 @@ use Rattle.paygo_spec.specs.declared.Reply.TheVariants as reply_is
 use Rattle.paygo_spec.specs.Flash.{FlashView}
 use Rattle.paygo_spec.specs.Pad.{no_keys, kept_of}
 use Rattle.paygo_spec.specs.Recovery as recovered
-use Rattle.paygo_spec.specs.Machine.{Act, Told, Stored, State, Stands, ActsIf, GoesBy, Replies, Takes, keys_after, calls_on, reply_to_power}
+use Rattle.paygo_spec.specs.Machine.{Stored, State, Stands, Acts, ActsIf, GoesBy, Replies, keys_after, calls_on, reply_to_power}
 use Rattle.device_core.specs.declared.device.Device.{Device}
 use Rattle.device_core.specs.declared.device.Phase.{Phase}
 use Rattle.device_core.specs.declared.device.Phase.TheVariants.{Off, Unmade, Damaged, Up}
 use Rattle.device_core.specs.Memory.{is_on, Fits, Backs, Holds, Agrees, Recalls, IsDown, Does, Costs, CostsAsSaid, PowersBy, RecallsBy, Remembers}
 use Rattle.device_core.specs.Changes.{Handled}
 use Rattle.device_core.proofs.Stands.{stands_as}
-use Rattle.device_core.proofs.Handling.{acts_other, takes_act, calls_other}
+use Rattle.device_core.proofs.Handling.{acts_other, calls_other}
 
 -- The words that stood for this state stand for that one then.
 abbrev pub StandOn : FlashView → State → FlashView → State → Type 0
@@ -25,7 +24,7 @@ StandOn was before now after = Stands was.words before.stored → Stands now.wor
 -- A step of the machine from whatever the device has in memory, which the words follow.
 abbrev pub Steps : (List ℕ → ℕ → ℕ) → Event → Device → FlashView → Option Reply → Device → FlashView → Type 0
 Steps next event old was reply new now =
-    (state : State) → Recalls old was state → (after : State) × Takes next (Act event) (option_map Told reply) state after × Recalls new now after × StandOn was state now after
+    (state : State) → Recalls old was state → (after : State) × Acts next event reply state after × Recalls new now after × StandOn was state now after
 
 -- What a device that is on does at an event but Power, in this state of the machine.
 abbrev pub Reacts : (List ℕ → ℕ → ℕ) → Event → State → FlashView → Option Reply → Device → FlashView → Type 0
@@ -80,7 +79,7 @@ module _ (next : List ℕ → ℕ → ℕ) (event : Event) (other : event ≢ Po
         let r = (says state recalled).0 in
         let on_is : state.on ≡ true = recalled.on_is ∙ on in (
           r.0,
-          takes_act next event reply state r.0 (acts_other next event reply state r.0 other (subst (λ (b : Bool). ActsIf b next event reply state r.0) (sym on_is) (r.1, r.2))),
+          acts_other next event reply state r.0 other (subst (λ (b : Bool). ActsIf b next event reply state r.0) (sym on_is) (r.1, r.2)),
           r.3,
           r.4,
         )

@@ -1,6 +1,5 @@
 -- What told words stand for.
 use Rattle.std.proofs.Common.{◌≡◌, ℕ, List, [], Option, Some, None, IfSome, refl, sym, subst}
-use Rattle.paygo_spec.specs.declared.TheConstants.{LAST}
 use Rattle.paygo_spec.specs.declared.Config.{Config}
 use Rattle.paygo_spec.specs.Clock.{unit_of}
 use Rattle.paygo_spec.specs.Flash.{Becomes}
@@ -42,7 +41,7 @@ journal_of history bank =
 
 -- The history is one that a device can have.
 abbrev pub IsLawful : History → Type 0
-IsLawful history = Lawful LAST (unit_for history) history.start history.entries
+IsLawful history = Lawful (unit_for history) history.start history.entries
 
 -- a journal that stands for a history is all that a device knows of it
 pub journal_is : (journal : JournalView) (history : History) → StandsAs (recovered.Made journal) (Journal history) → journal ≡ journal_of history journal.bank
@@ -52,8 +51,8 @@ journal_is journal history (config, at, summary, lawful) =
     (subst (λ (s : Summary). journal ≡ record { bank = journal.bank; at = journal.at; config = journal.config; summary = s }) summary refl))
 
 -- a device whose summary keeps the rules has the history that starts with it
-pub history_from : (journal : JournalView) → IsSummary LAST journal.summary → (stored : Stored) × StandsAs (recovered.Made journal) stored
+pub history_from : (journal : JournalView) → IsSummary journal.summary → (stored : Stored) × StandsAs (recovered.Made journal) stored
 history_from journal rule = (
   Journal (record { config = journal.config; start = journal.summary; entries = []; at = journal.at }),
-  (refl, refl, sym (snapshot_start LAST (unit_of journal.config.divider) journal.summary rule), rule),
+  (refl, refl, sym (snapshot_start (unit_of journal.config.divider) journal.summary rule), rule),
 )

@@ -2,13 +2,13 @@
 use Rattle.std.proofs.Common.{◌≡◌, ◌≢◌, ℕ, Bool, true, false, List, Option, Some, None, refl, sym, ap, ◌∙◌, arith, subst}
 use Rattle.paygo_spec.specs.declared.Config.{Config}
 use Rattle.paygo_spec.specs.declared.Event.{Event}
-use Rattle.paygo_spec.specs.declared.Event.TheVariants.{Power, Make, Key, Tick, Show}
+use Rattle.paygo_spec.specs.declared.Event.TheVariants.{Power, Make, Key, Tick, Show, Raise}
 use Rattle.paygo_spec.specs.declared.Reply.{Reply}
 use Rattle.paygo_spec.specs.declared.Reply.TheVariants as reply_is
 use Rattle.paygo_spec.specs.Flash.{FlashView}
 use Rattle.paygo_spec.specs.Pad.{Keys, PadView, kept_of}
 use Rattle.paygo_spec.specs.Recovery as recovered
-use Rattle.paygo_spec.specs.Machine.{Act, Stored, Blank, Broken, Journal, StandsAs, State, ActsIf, Takes, Replies, only, keys_after, calls_on, calls_of}
+use Rattle.paygo_spec.specs.Machine.{Stored, Blank, Broken, Journal, StandsAs, State, Acts, ActsIf, Replies, only, keys_after, calls_on, calls_of}
 use Rattle.device_core.specs.declared.device.Device.{Device}
 use Rattle.device_core.specs.declared.device.Phase.{Phase}
 use Rattle.device_core.specs.declared.device.Phase.TheVariants.{Off, Unmade, Damaged}
@@ -26,12 +26,13 @@ off_if : (next : List ℕ → ℕ → ℕ) (event : Event) (state : State) → s
 off_if next event state off =
     subst (λ (b : Bool). ActsIf b next event None state state) (sym off) (refl, refl, record { on_is = off; keys_are = refl; later = omega arith })
 
-off_acts : (next : List ℕ → ℕ → ℕ) (event : Event) (state : State) → event ≢ Power → state.on ≡ false → Takes next (Act event) None state state
+off_acts : (next : List ℕ → ℕ → ℕ) (event : Event) (state : State) → event ≢ Power → state.on ≡ false → Acts next event None state state
 off_acts next Power state other off = absurd (other refl)
 off_acts next (Make config) state other off = off_if next (Make config) state off
 off_acts next (Key key) state other off = off_if next (Key key) state off
 off_acts next (Tick seconds) state other off = off_if next (Tick seconds) state off
 off_acts next Show state other off = off_if next Show state off
+off_acts next Raise state other off = off_if next Raise state off
 
 off_calls : (next : List ℕ → ℕ → ℕ) (event : Event) (state : State) → event ≢ Power → state.on ≡ false → calls_of next state event ≡ Some 0
 off_calls next Power state other off = absurd (other refl)
@@ -74,6 +75,7 @@ broken_keys (Make config) keys word = refl
 broken_keys (Key key) keys word = refl
 broken_keys (Tick seconds) keys word = refl
 broken_keys Show keys word = refl
+broken_keys Raise keys word = refl
 
 module _ (next : List ℕ → ℕ → ℕ) (event : Event) (other : event ≢ Power) (before : PadView) (was : FlashView) (reply : Option Reply) (after : PadView)
     (told : (keys : Keys) → before ≡ kept_of keys → after ≡ kept_of (keys_after Blank event keys)) where

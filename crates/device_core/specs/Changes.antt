@@ -1,5 +1,5 @@
 -- What each call of a device does to what it has in memory and to its flash, by its reply.
-use Rattle.std.specs.Prelude.{◌≡◌, ◌≢◌, ℕ, ◌≤◌, true, false, List, Option, Some, None, IfSome}
+use Rattle.std.specs.Prelude.{◌≡◌, ◌≢◌, ℕ, ◌≤◌, ◌⊎◌, true, false, List, Option, Some, None, IfSome}
 use Rattle.paygo_spec.specs.declared.Config.{Config}
 use Rattle.paygo_spec.specs.declared.Entry.{Entry}
 use Rattle.paygo_spec.specs.declared.Event.{Event}
@@ -9,17 +9,17 @@ use Rattle.paygo_spec.specs.declared.Reply.TheVariants as reply_is
 use Rattle.paygo_spec.specs.Calls.{Passed, Failed}
 use Rattle.paygo_spec.specs.Clock.{clock_at_start}
 use Rattle.paygo_spec.specs.Flash.{FlashView, Becomes}
-use Rattle.paygo_spec.specs.Layout.{room, calls_of_entry}
+use Rattle.paygo_spec.specs.Layout.{room, last_bank, calls_of_entry}
 use Rattle.paygo_spec.specs.Pad.{Keys, PadView, no_keys, kept_of}
 use Rattle.paygo_spec.specs.Recovery.{JournalView, recover}
 use Rattle.paygo_spec.specs.Recovery as recovered
 use Rattle.paygo_spec.specs.Machine.{History, Journal, reply_to_entry, keys_after}
-use Rattle.journal_laws.specs.Journal.{new_journal, with_entry, IsCut, IsCutMake}
+use Rattle.journal_laws.specs.Journal.{new_journal, raised_journal, with_entry, IsCut, IsCutMake}
 use Rattle.device_core.specs.declared.device.Device.{Device}
 use Rattle.device_core.specs.declared.device.Phase.{Phase}
 use Rattle.device_core.specs.declared.device.Phase.TheVariants.{Off, Unmade, Damaged, Up}
 use Rattle.device_core.specs.declared.decision.Decision.{Decision}
-use Rattle.device_core.specs.declared.decision.Decision.TheVariants.{Answers, Adds}
+use Rattle.device_core.specs.declared.decision.Decision.TheVariants.{Answers, Adds, Raises}
 use Rattle.device_core.specs.Decided.{MayDo, decided}
 use Rattle.device_core.specs.Memory.{Holds, IsDown, Does, CostsAsSaid, Remembers}
 
@@ -48,10 +48,31 @@ AddsAs entry old was reply_is.Worn new now = (room old.at ≡ 0) × Stays old ne
 AddsAs entry old was reply_is.Down new now = CutOff entry old was now
 AddsAs entry old was reply new now = Added entry old was reply new now
 
+-- The device was raised, and this is the reply.
+pub record RaisedNow (old : JournalView) (was : FlashView) (reply : Reply) (new : JournalView) (now : FlashView) : Type 0 where
+  pub some_bank : old.at.number ≢ last_bank
+  pub reply_is : reply ≡ reply_is.Raised
+  pub journal : new ≡ raised_journal old
+  pub words : Becomes (λ old words. recover words ≡ recovered.Made new) was.words now.words
+  pub calls : Passed 13 was now
+
+-- The flash failed while the device was raised.
+pub record CutRaise (old : JournalView) (was now : FlashView) : Type 0 where
+  pub some_bank : old.at.number ≢ last_bank
+  pub words : Becomes (λ before words. (recover words ≡ recovered.Made old) ⊎ (recover words ≡ recovered.Made (raised_journal old))) was.words now.words
+  pub calls : Failed 13 was now
+
+-- The device is to be raised: there is no bank for it, or the flash fails, or it is raised.
+abbrev pub RaisesAs : JournalView → FlashView → Reply → JournalView → FlashView → Type 0
+RaisesAs old was reply_is.Worn new now = (old.at.number ≡ last_bank) × Stays old new was now
+RaisesAs old was reply_is.Down new now = CutRaise old was now
+RaisesAs old was reply new now = RaisedNow old was reply new now
+
 -- A decision is carried out: an answer changes nothing.
 abbrev pub Carried : Decision → JournalView → FlashView → Reply → JournalView → FlashView → Type 0
 Carried (Answers answer) old was reply new now = (reply ≡ answer) × Stays old new was now
 Carried (Adds entry) old was reply new now = AddsAs entry old was reply new now
+Carried Raises old was reply new now = RaisesAs old was reply new now
 
 -- The same, where nothing may be decided: then there is no reply.
 abbrev pub CarriedOut : Option Decision → JournalView → FlashView → Option Reply → JournalView → FlashView → Type 0

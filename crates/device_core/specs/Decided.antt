@@ -1,12 +1,11 @@
 -- What an event comes to on a device that was made, by what it knows of its history: its journal and its pad.
 use Rattle.std.specs.Prelude.{◌≡◌, ◌≢◌, ℕ, min, true, ◌==◌, List, [], take, Option, Some, None, if◌then◌else◌}
-use Rattle.paygo_spec.specs.declared.TheConstants.{LAST}
 use Rattle.paygo_spec.specs.declared.Entry.TheVariants.{Elapsed}
 use Rattle.paygo_spec.specs.declared.Event.{Event}
-use Rattle.paygo_spec.specs.declared.Event.TheVariants.{Power, Make, Key, Tick, Show}
+use Rattle.paygo_spec.specs.declared.Event.TheVariants.{Power, Make, Key, Tick, Show, Raise}
 use Rattle.paygo_spec.specs.declared.Reply.{Reply}
 use Rattle.paygo_spec.specs.declared.Reply.TheVariants as reply_is
-use Rattle.paygo_spec.specs.History.{Summary}
+use Rattle.paygo_spec.specs.History.{Summary, first_limit, raised_limit}
 use Rattle.paygo_spec.specs.Clock.{clock_at_start, clock_after, unit_of}
 use Rattle.paygo_spec.specs.Digits.{digit_count}
 use Rattle.paygo_spec.specs.Lawful.{follows}
@@ -18,7 +17,7 @@ use Rattle.paygo_spec.specs.Typed.{Typed, WrongLength, WrongDigit, Blocked, Over
 use Rattle.paygo_spec.specs.declared.Found.{Found}
 use Rattle.paygo_spec.specs.Machine.{shows_same, reply_to_entry}
 use Rattle.device_core.specs.declared.decision.Decision.{Decision}
-use Rattle.device_core.specs.declared.decision.Decision.TheVariants.{Answers, Adds}
+use Rattle.device_core.specs.declared.decision.Decision.TheVariants.{Answers, Adds, Raises}
 
 -- The seconds of one unit of time of a device.
 abbrev pub unit_in : JournalView → ℕ
@@ -27,7 +26,7 @@ unit_in journal = unit_of journal.config.divider
 -- What becomes of these digits, by the summary of the history alone.
 abbrev pub typed_by : (List ℕ → ℕ → ℕ) → JournalView → List ℕ → Typed
 typed_by next journal digits =
-    typed (next journal.config.key) journal.config.start LAST (unit_in journal) journal.config.form journal.summary [] digits
+    typed (next journal.config.key) journal.config.start (unit_in journal) journal.config.form journal.summary [] digits
 
 -- What is decided by what becomes of an entry at the keypad.
 abbrev pub decided_by : Typed → Decision
@@ -39,7 +38,7 @@ decided_by (Makes entry clock) = Adds entry
 
 -- What the search finds, by the summary of the history alone.
 abbrev pub found_in : (List ℕ → ℕ → ℕ) → JournalView → ℕ → Found
-found_in next journal token = found (next journal.config.key) journal.config.start LAST journal.summary [] token
+found_in next journal token = found (next journal.config.key) journal.config.start journal.summary [] token
 
 -- What is decided by what the search found, where entries aren't blocked.
 abbrev pub decided_found : JournalView → Found → Decision
@@ -60,6 +59,10 @@ decided_seconds unit summary seconds =
     let clock = clock_after unit (Elapsed seconds) (clock_at_start summary) in
     if shows_same clock (clock_at_start summary) then Answers (reply_to_entry (Elapsed seconds) clock) else Adds (Elapsed seconds)
 
+-- What is decided where the device is to be raised: once it was, it is only answered.
+abbrev pub decided_raise : Summary → Decision
+decided_raise summary = if summary.limit == raised_limit then Answers reply_is.Raised else Raises
+
 -- What the device shows, with so many digits on its pad.
 abbrev pub shown_by : JournalView → ℕ → Reply
 shown_by journal held =
@@ -77,8 +80,10 @@ decided next journal keys (Make config) = Some (Answers (reply_is.Made journal.a
 decided next journal keys (Key key) = decided_key next journal keys key
 decided next journal keys (Tick seconds) = Some (decided_seconds (unit_in journal) journal.summary seconds)
 decided next journal keys Show = Some (Answers (shown_by journal (held_of keys)))
+decided next journal keys Raise = Some (decided_raise journal.summary)
 
--- A decision may be carried out: an entry that it adds may follow the summary, and no answer says that the flash failed.
+-- A decision may be carried out: an entry that it adds may follow the summary, it raises only once, and no answer says that the flash failed.
 abbrev pub MayDo : JournalView → Decision → Type 0
 MayDo journal (Answers reply) = reply ≢ reply_is.Down
-MayDo journal (Adds entry) = follows LAST journal.summary entry ≡ true
+MayDo journal (Adds entry) = follows journal.summary entry ≡ true
+MayDo journal Raises = journal.summary.limit ≡ first_limit

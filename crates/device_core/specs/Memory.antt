@@ -1,6 +1,5 @@
 -- What a device has in memory, beside what its flash stands for.
 use Rattle.std.specs.Prelude.{◌≡◌, ℕ, Bool, true, false, List, Option, Some, None, IfSome, is_some}
-use Rattle.std.specs.Option.{option_map}
 use Rattle.paygo_spec.specs.declared.Config.{Config}
 use Rattle.paygo_spec.specs.declared.Event.{Event}
 use Rattle.paygo_spec.specs.declared.Event.TheVariants.{Power, Make}
@@ -12,8 +11,8 @@ use Rattle.paygo_spec.specs.Calls.{DueAfter, DueWithin}
 use Rattle.paygo_spec.specs.Pad.{no_keys, kept_of}
 use Rattle.paygo_spec.specs.Recovery.{Recovered, recover}
 use Rattle.paygo_spec.specs.Recovery as recovered
-use Rattle.paygo_spec.specs.Machine.{Act, Told, Stored, State, StandsAs, Takes, reply_to_power, calls_of}
-use Rattle.paygo_spec.specs.Ran.{Stand}
+use Rattle.paygo_spec.specs.Machine.{Stored, State, StandsAs, Acts, reply_to_power, calls_of}
+use Rattle.paygo_spec.specs.Machine.{Stand}
 use Rattle.journal_laws.specs.Journal.{new_journal}
 use Rattle.device_core.specs.declared.device.Device.{Device}
 use Rattle.device_core.specs.declared.device.Phase.{Phase}
@@ -47,16 +46,17 @@ pub record Agrees (device : Device) (flash : FlashView) (state : State) : Type 0
   pub pad_is : device.pad ≡ kept_of state.keys
   pub stand : Stand flash state
 
--- The flash failed in this event, and the device is off.
+-- The flash failed in this event, and the device is off, with a cleared pad.
 pub record IsDown (old : Device) (was : FlashView) (new : Device) (now : FlashView) : Type 0 where
   pub off : is_on new ≡ false
+  pub cleared : new.pad ≡ kept_of no_keys
   pub rose : Rose was.faults now.faults
 
 -- Whatever device and flash stand for, the reply to this event is one that the machine may give, and device and flash go
 -- on to what it goes on to.
 abbrev pub Does : (List ℕ → ℕ → ℕ) → Event → Device → FlashView → Option Reply → Device → FlashView → Type 0
 Does next event old was reply new now =
-    (state : State) → Agrees old was state → (after : State) × Takes next (Act event) (option_map Told reply) state after × Agrees new now after
+    (state : State) → Agrees old was state → (after : State) × Acts next event reply state after × Agrees new now after
 
 -- An event that makes so many calls of the flash, where that is said, is answered Down exactly where the due was below
 -- that number.
@@ -95,14 +95,14 @@ PowersBy reply new =
 abbrev pub MakesBy : Config → Option Reply → Device → Device → Type 0
 MakesBy config (Some reply_is.Down) old new = is_on new ≡ false
 MakesBy config (Some (reply_is.Damaged place)) old new = (found_by new.phase ≡ Some (recovered.Damaged place)) × (new.pad ≡ old.pad)
-MakesBy config (Some (reply_is.Made number)) old new = is_on new ≡ false
+MakesBy config (Some (reply_is.Made number)) old new = (is_on new ≡ false) × (new.pad ≡ old.pad)
 MakesBy config reply old new =
     (reply ≡ Some (reply_is.Up 0 0 false 0)) × (found_by new.phase ≡ Some (recovered.Made (new_journal config))) × (new.pad ≡ old.pad)
 
 -- Any other event is a step of the machine, from whatever the device has in memory to what it has there then.
 abbrev pub RecallsBy : (List ℕ → ℕ → ℕ) → Event → Device → FlashView → Option Reply → Device → FlashView → Type 0
 RecallsBy next event old was reply new now =
-    (state : State) → Recalls old was state → (after : State) × Takes next (Act event) (option_map Told reply) state after × Recalls new now after
+    (state : State) → Recalls old was state → (after : State) × Acts next event reply state after × Recalls new now after
 
 -- What the device answers, and has in memory then, follows what it has in memory, also where its flash tells no words.
 abbrev pub Remembers : (List ℕ → ℕ → ℕ) → Event → Device → FlashView → Option Reply → Device → FlashView → Type 0

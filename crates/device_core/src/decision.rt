@@ -2,13 +2,13 @@
 ghost use Rattle.std.specs.Prelude.{◌≡◌, ◌≢◌, IfSome};
 ghost use Rattle.paygo_spec.specs.Machine.{IsEvent, History, Journal as JournalOf, keys_after};
 ghost use Rattle.paygo_spec.specs.Pad.{Keys, IsKey, after_key, kept_of};
-ghost use Rattle.device_core.specs.Decided.{MayDo, decided, decided_entry, decided_found, decided_key, decided_seconds, decided_token, found_in, unit_in};
+ghost use Rattle.device_core.specs.Decided.{MayDo, decided, decided_entry, decided_found, decided_key, decided_raise, decided_seconds, decided_token, found_in, unit_in};
 
 use crate::replies::{reply_to_time, show_same, shown};
 use bank_journal::Journal;
 use digit_set::{DigitFault, read};
 use keypad_entry::{Pad, Press};
-use paygo_spec::{Entry, Event, Found, Reply};
+use paygo_spec::{Entry, Event, Found, GREAT, Reply};
 use token_chain::Mixer;
 use token_decode::find;
 
@@ -19,6 +19,8 @@ pub enum Decision {
     Answers(Reply),
     /// It adds this entry to the history.
     Adds(Entry),
+    /// It raises the device.
+    Raises,
 }
 
 // Decides what an event comes to, and tells the pad of it first: a key is pressed on it, and a tick lets it forget.
@@ -40,6 +42,7 @@ pub(crate) fn decide<M: Mixer>(journal: &Journal, pad: &mut Pad, event: Event) -
             Some(decide_seconds(journal, seconds))
         }
         Event::Show => Some(Decision::Answers(shown(journal, pad.held()))),
+        Event::Raise => Some(decide_raise(journal)),
     }
 }
 
@@ -93,6 +96,18 @@ fn search<M: Mixer>(journal: &Journal, token: u32) -> Decision
         Found::Valid { count, value } => Decision::Adds(Entry::Accept { count, value }),
         Found::Old { .. } => Decision::Answers(Reply::Old),
         Found::Invalid => Decision::Adds(Entry::Bad),
+    }
+}
+
+// The device is to be raised. Once it was, nothing changes.
+fn decide_raise(journal: &Journal) -> Decision
+    ensures decision { result ≡ decided_raise journal.now.summary }
+    ensures may { MayDo journal.now result }
+{
+    if journal.summary().window.limit() == GREAT {
+        Decision::Answers(Reply::Raised)
+    } else {
+        Decision::Raises
     }
 }
 

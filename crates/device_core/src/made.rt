@@ -3,7 +3,7 @@ ghost use Rattle.std.specs.Prelude.{◌≡◌, true, IfSome};
 ghost use Rattle.paygo_spec.specs.Machine.{IsEvent};
 ghost use Rattle.paygo_spec.specs.Recovery.{Made, recover};
 ghost use Rattle.device_core.specs.Decided.{MayDo};
-ghost use Rattle.device_core.specs.Changes.{AddsAs, Asked, Carried};
+ghost use Rattle.device_core.specs.Changes.{AddsAs, Asked, Carried, RaisesAs};
 
 use crate::decision::{Decision, decide};
 use crate::replies::reply_to;
@@ -41,6 +41,7 @@ fn carry_out<F: Flash>(journal: &mut Journal, flash: &mut F, decision: Decision)
     match decision {
         Decision::Answers(reply) => reply,
         Decision::Adds(entry) => add(journal, flash, entry),
+        Decision::Raises => raise(journal, flash),
     }
 }
 
@@ -53,6 +54,20 @@ fn add<F: Flash>(journal: &mut Journal, flash: &mut F, entry: Entry) -> Reply
 {
     match journal.append(flash, entry) {
         Ok(()) => reply_to(entry, &journal.summary().clock),
+        Err(JournalFault::Worn) => Reply::Worn,
+        Err(_) => Reply::Down,
+    }
+}
+
+// Raises the device. It is raised only once the header of the next bank stands on the flash.
+fn raise<F: Flash>(journal: &mut Journal, flash: &mut F) -> Reply
+    requires up { (F.view flash.old).up ≡ true }
+    requires holds { IfSome (F.view flash.old).words (λ words. recover words ≡ Made journal.old) }
+    requires may { MayDo journal.old Decision.Raises }
+    ensures { RaisesAs journal.old (F.view flash.old) result journal.new (F.view flash.new) }
+{
+    match journal.raise(flash) {
+        Ok(()) => Reply::Raised,
         Err(JournalFault::Worn) => Reply::Worn,
         Err(_) => Reply::Down,
     }

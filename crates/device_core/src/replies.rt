@@ -58,6 +58,7 @@ pub(crate) fn reply_to(entry: Entry, clock: &Clock) -> Reply
             block: clock.block(),
         },
         Entry::Elapsed { .. } => reply_to_time(clock),
+        Entry::Raised => Reply::Raised,
     }
 }
 

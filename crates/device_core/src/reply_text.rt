@@ -1,110 +1,53 @@
-// The texts of the replies.
-ghost use Rattle.std.specs.Prelude.{◌≡◌, ◌+◌, ◌≤◌, ◌++◌, false, length, take, drop, codes};
+// The texts of the replies: each is a word, numbers, and in some the time left.
+ghost use Rattle.std.specs.Prelude.{◌≡◌, ◌+◌, ◌≤◌, false, length, take, drop};
 ghost use Rattle.paygo_spec.specs.Text.{text_of, with_number, with_left};
 ghost use Rattle.device_core.specs.Texts.{is_of_entry};
 
 use line_text::Line;
 use paygo_spec::Reply;
 
-// Puts a space and the seconds left at the end, or the word `free`.
-fn push_left(line: &mut Line, left: u64, free: bool)
-    requires { length line.old + 21 ≤ 512 }
-    ensures text { line.new ≡ with_left line.old left free }
-    ensures len { length line.new ≤ length line.old + 21 }
+// A word alone.
+fn word(letters: &[u8]) -> Line
+    requires { length letters.now ≤ 10 }
+    ensures text { result ≡ letters.now }
+    ensures len { length result ≤ 10 }
+{
+    let mut line = Line::new();
+    line.push(letters);
+    line
+}
+
+// The line with a space and a number at its end.
+fn number(mut line: Line, n: u64) -> Line
+    requires { length line + 21 ≤ 512 }
+    ensures text { result ≡ with_number line n }
+    ensures len { length result ≤ length line + 21 }
+{
+    line.push_number(n);
+    line
+}
+
+// The line with a space and the seconds left at its end, or the word `free`.
+fn time(mut line: Line, left: u64, free: bool) -> Line
+    requires { length line + 21 ≤ 512 }
+    ensures text { result ≡ with_left line left free }
+    ensures len { length result ≤ length line + 21 }
 {
     if free {
         line.push(b" free");
     } else {
         line.push_number(left);
     }
-}
-
-// Puts failures, block, digits held and room at the end.
-fn push_state(line: &mut Line, fails: u8, block: u32, held: u8, room: u64)
-    requires { length line.old + 84 ≤ 512 }
-    ensures text { line.new ≡ with_number (with_number (with_number (with_number line.old fails) block) held) room }
-    ensures len { length line.new ≤ length line.old + 84 }
-{
-    line.push_number(u64::from(fails));
-    line.push_number(u64::from(block));
-    line.push_number(u64::from(held));
-    line.push_number(room);
-}
-
-// A word alone.
-fn word_line(word: &[u8]) -> Line
-    requires { length word.now ≤ 10 }
-    ensures text { result ≡ word.now }
-    ensures len { length result ≤ 10 }
-{
-    let mut line = Line::new();
-    line.push(word);
     line
 }
 
-// A word, a space and a number.
-fn numbered(word: &[u8], n: u64) -> Line
-    requires { length word.now ≤ 10 }
-    ensures text { result ≡ with_number word.now n }
+// A word and a number.
+fn numbered(letters: &[u8], n: u64) -> Line
+    requires { length letters.now ≤ 10 }
+    ensures text { result ≡ with_number letters.now n }
     ensures len { length result ≤ 31 }
 {
-    let mut line = word_line(word);
-    line.push_number(n);
-    line
-}
-
-// The line of a set token that was accepted.
-fn set_line(count: u16, value: u16, left: u64) -> Line
-    ensures text { result ≡ text_of (Reply.Set count value left) }
-    ensures len { length result ≤ 200 }
-{
-    let mut line = numbered(b"set", u64::from(count));
-    line.push_number(u64::from(value));
-    line.push_number(left);
-    line
-}
-
-// The line of an add token that was accepted.
-fn added_line(count: u16, value: u16, left: u64, free: bool) -> Line
-    ensures text { result ≡ text_of (Reply.Added count value left free) }
-    ensures len { length result ≤ 200 }
-{
-    let mut line = numbered(b"added", u64::from(count));
-    line.push_number(u64::from(value));
-    push_left(&mut line, left, free);
-    line
-}
-
-// The line of a device that is up.
-fn up_line(count: u16, left: u64, free: bool, block: u32) -> Line
-    ensures text { result ≡ text_of (Reply.Up count left free block) }
-    ensures len { length result ≤ 200 }
-{
-    let mut line = numbered(b"up", u64::from(count));
-    push_left(&mut line, left, free);
-    line.push_number(u64::from(block));
-    line
-}
-
-// The line of time that passed.
-fn ticked_line(left: u64, free: bool, block: u32) -> Line
-    ensures text { result ≡ text_of (Reply.Ticked left free block) }
-    ensures len { length result ≤ 200 }
-{
-    let mut line = word_line(b"ticked");
-    push_left(&mut line, left, free);
-    line.push_number(u64::from(block));
-    line
-}
-
-// The first part of what a device shows: its last count and its time left.
-fn shown_line(count: u16, left: u64, free: bool) -> Line
-    ensures text { result ≡ with_left (with_number (codes "shown") count) left free }
-    ensures len { length result ≤ 52 }
-{
-    let mut line = numbered(b"shown", u64::from(count));
-    push_left(&mut line, left, free);
-    line
+    number(word(letters), n)
 }
 
 // The line of a reply that isn't one to an entry at the keypad. The last of them is `Unmade`.
@@ -114,15 +57,22 @@ fn state_line(reply: &Reply) -> Line
     ensures len { length result ≤ 200 }
 {
     match *reply {
-        Reply::Worn => word_line(b"worn"),
-        Reply::Down => word_line(b"down"),
+        Reply::Worn => word(b"worn"),
+        Reply::Down => word(b"down"),
+        Reply::Raised => word(b"raised"),
         Reply::Up {
             count,
             left,
             free,
             block,
-        } => up_line(count, left, free, block),
-        Reply::Ticked { left, free, block } => ticked_line(left, free, block),
+        } => number(
+            time(numbered(b"up", u64::from(count)), left, free),
+            u64::from(block),
+        ),
+        Reply::Ticked { left, free, block } => number(
+            time(word(b"ticked"), left, free),
+            u64::from(block),
+        ),
         Reply::Made { number } => numbered(b"made", u64::from(number)),
         Reply::Damaged { place } => numbered(b"damaged", u64::from(place)),
         Reply::Shown {
@@ -134,11 +84,11 @@ fn state_line(reply: &Reply) -> Line
             held,
             room,
         } => {
-            let mut line = shown_line(count, left, free);
-            push_state(&mut line, fails, block, held, room);
-            line
+            let line = time(numbered(b"shown", u64::from(count)), left, free);
+            let line = number(number(line, u64::from(fails)), u64::from(block));
+            number(number(line, u64::from(held)), room)
         }
-        _ => word_line(b"unmade"),
+        _ => word(b"unmade"),
     }
 }
 
@@ -148,16 +98,23 @@ pub fn line(reply: &Reply) -> Line
     ensures len { length result ≤ 200 }
 {
     match *reply {
-        Reply::Set { count, value, left } => set_line(count, value, left),
+        Reply::Set { count, value, left } => number(
+            number(numbered(b"set", u64::from(count)), u64::from(value)),
+            left,
+        ),
         Reply::Added {
             count,
             value,
             left,
             free,
-        } => added_line(count, value, left, free),
+        } => time(
+            number(numbered(b"added", u64::from(count)), u64::from(value)),
+            left,
+            free,
+        ),
         Reply::Free { count } => numbered(b"free", u64::from(count)),
         Reply::Synced { count } => numbered(b"synced", u64::from(count)),
-        Reply::Old => word_line(b"old"),
+        Reply::Old => word(b"old"),
         Reply::Invalid { block } => numbered(b"invalid", u64::from(block)),
         Reply::Blocked { block } => numbered(b"blocked", u64::from(block)),
         Reply::Length { n } => numbered(b"length", u64::from(n)),

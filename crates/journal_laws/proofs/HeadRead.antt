@@ -1,18 +1,18 @@
 -- The head of a bank that is read: each of its numbers is the one that is written for what they say together.
-use Rattle.std.proofs.Common.{◌≡◌, ℕ, zero, suc, true, false, ◌+◌, ◌*◌, ◌/◌, ◌%◌, ◌^◌, ◌<◌, ◌≤◌, ◌==◌, ◌||◌, nat_le, nat_lt, if◌then◌else◌, is_some, ◌++◌, List, [], ◌∷◌, slice_index, refl, arith, ⊎_elim}
+use Rattle.std.proofs.Common.{◌≡◌, ℕ, zero, suc, true, false, ◌+◌, ◌*◌, ◌/◌, ◌%◌, ◌^◌, ◌<◌, ◌≤◌, ◌==◌, ◌||◌, nat_le, nat_lt, if◌then◌else◌, is_some, ◌++◌, List, [], ◌∷◌, slice_index, refl, arith, ⊎_elim, ◌⊎◌, inl, inr}
 use Rattle.std.specs.Int.{w32, to_be_bytes}
-use Rattle.std.proofs.lemmas.Bool.{and_parts, and_from, cases_eq, cases_lt}
+use Rattle.std.proofs.lemmas.Bool.{and_parts, and_from, or_cases, cases_Bool, cases_eq, cases_lt}
 use Rattle.std.proofs.lemmas.Bool.Decides.{nat_tests}
 use Rattle.std.proofs.lemmas.Nat.{from_be_bytes-to_be_bytes_4}
-use Rattle.paygo_spec.specs.declared.TheConstants.{LAST}
 use Rattle.paygo_spec.specs.declared.Form.TheVariants.{Nine, Fifteen}
 use Rattle.paygo_spec.specs.Digits.{digit_count, form_of}
+use Rattle.paygo_spec.specs.History.{IsLimit}
 use Rattle.paygo_spec.specs.Clock.{clock_at_start, most_left, longest_block}
 use Rattle.paygo_spec.specs.Lawful.{IsSummary}
-use Rattle.paygo_spec.specs.Layout.{key_number, head_number}
+use Rattle.paygo_spec.specs.Layout.{key_number, format_of, head_number}
 use Rattle.paygo_spec.specs.Machine.{IsConfig}
-use Rattle.paygo_spec.specs.Words.{divides_day}
-use Rattle.paygo_spec.specs.Recovery.{is_format, is_state, left_in, config_in_head, summary_in_head}
+use Rattle.paygo_spec.specs.Clock.{divides_day}
+use Rattle.paygo_spec.specs.Recovery.{is_format, limit_in, is_state, left_in, config_in_head, summary_in_head}
 use Rattle.paygo_spec.proofs.Clocks.{clock_test}
 use Rattle.paygo_spec.proofs.WindowTests.{window_test}
 use Rattle.journal_laws.specs.Banks.{IsKeyBytes, KeepsRules}
@@ -54,18 +54,30 @@ form_says n h =
     (cases_eq n 15)
 
 -- the parts of place 6
-pub format_parts : (x : ℕ) → is_format x ≡ true → (x / 2 ^ 16 ≡ 2 ^ 8) × (is_some (form_of (x / 2 ^ 8 % 2 ^ 8)) ≡ true) × (divides_day (x % 2 ^ 8) ≡ true)
+pub format_parts : (x : ℕ) → is_format x ≡ true → ((x / 2 ^ 16 ≡ 2 ^ 8) ⊎ (x / 2 ^ 16 ≡ 2 * 2 ^ 8)) × (is_some (form_of (x / 2 ^ 8 % 2 ^ 8)) ≡ true) × (divides_day (x % 2 ^ 8) ≡ true)
 format_parts x h =
     let a = and_parts _ _ h in
-    let b = and_parts _ _ a.0 in
-    let e : (x / 2 ^ 16 == 2 ^ 8) ≡ true = b.0 in
-    (grind (arith, nat_tests), b.1, a.1)
+    let b = and_parts _ _ a.0 in (
+      ⊎_elim (λ (e : (x / 2 ^ 16 == 2 ^ 8) ≡ true). inl (grind (arith, nat_tests))) (λ (e : (x / 2 ^ 16 == 2 * 2 ^ 8) ≡ true). inr (grind (arith, nat_tests)))
+          (or_cases (x / 2 ^ 16 == 2 ^ 8) (x / 2 ^ 16 == 2 * 2 ^ 8) b.0),
+      b.1,
+      a.1,
+    )
 
-format_says : (x : ℕ) → is_format x ≡ true → 2 ^ 24 + digit_count (if x / 2 ^ 8 % 2 ^ 8 == 15 then Fifteen else Nine) * 2 ^ 8 + x % 2 ^ 8 ≡ x
+-- its format is that of the limit that it says
+format_of_limit : (x : ℕ) → (x / 2 ^ 16 ≡ 2 ^ 8) ⊎ (x / 2 ^ 16 ≡ 2 * 2 ^ 8) → format_of (limit_in x) ≡ x / 2 ^ 24
+format_of_limit x (inl e) = let v : x / 2 ^ 24 ≡ 1 = omega arith in rw v refl
+format_of_limit x (inr e) = let v : x / 2 ^ 24 ≡ 2 = omega arith in rw v refl
+
+limit_says : (x : ℕ) → IsLimit (limit_in x)
+limit_says x = ⊎_elim (λ (e : (x / 2 ^ 24 == 2) ≡ true). rw e (inr refl)) (λ (e : (x / 2 ^ 24 == 2) ≡ false). rw e (inl refl)) (cases_Bool (x / 2 ^ 24 == 2))
+
+format_says : (x : ℕ) → is_format x ≡ true → format_of (limit_in x) * 2 ^ 24 + digit_count (if x / 2 ^ 8 % 2 ^ 8 == 15 then Fifteen else Nine) * 2 ^ 8 + x % 2 ^ 8 ≡ x
 format_says x h =
     let p = format_parts x h in
-    let version : x / 2 ^ 16 ≡ 2 ^ 8 = p.0 in
-    rw (form_says (x / 2 ^ 8 % 2 ^ 8) p.1) (omega arith)
+    let version : format_of (limit_in x) ≡ x / 2 ^ 24 = format_of_limit x p.0 in
+    let clear : x / 2 ^ 16 ≡ x / 2 ^ 24 * 2 ^ 8 = ⊎_elim (λ (e : x / 2 ^ 16 ≡ 2 ^ 8). omega arith) (λ (e : x / 2 ^ 16 ≡ 2 * 2 ^ 8). omega arith) p.0 in
+    rw (version, form_says (x / 2 ^ 8 % 2 ^ 8) p.1) (omega arith)
 
 -- the parts of place 10
 pub state_parts : (left x : ℕ) → is_state left x ≡ true → (x < 2 ^ 9) × (x % 2 ^ 8 ≤ 10) × ((nat_lt x (2 ^ 8) || left == 0) ≡ true)
@@ -148,7 +160,7 @@ not_free left x h =
     rw t (rw f at h))
     (cases_lt x (2 ^ 8))
 
-pub head_summary : (numbers : ℕ → ℕ) → KeepsRules numbers → IsSummary LAST (summary_in_head numbers)
+pub head_summary : (numbers : ℕ → ℕ) → KeepsRules numbers → IsSummary (summary_in_head numbers)
 head_summary numbers rule =
     let state = state_parts (left_in numbers) (numbers 10) (rule.each 10 (omega arith) (omega arith)) in
     let within : nat_le (left_in numbers) most_left ≡ true = rule.each 9 (omega arith) (omega arith) in
@@ -157,6 +169,7 @@ head_summary numbers rule =
     let free = not_free (left_in numbers) (numbers 10) state.2 in
     let block : nat_le (numbers 11) (longest_block (numbers 10 % 2 ^ 8)) ≡ true = rule.each 11 (omega arith) (omega arith) in
     record {
-      window = (window_test LAST (numbers 7 / 2 ^ 16) (numbers 7 % 2 ^ 16)).0 (rule.each 7 (omega arith) (omega arith));
+      limited = limit_says (numbers 6);
+      window = (window_test (limit_in (numbers 6)) (numbers 7 / 2 ^ 16) (numbers 7 % 2 ^ 16)).0 (rule.each 7 (omega arith) (omega arith));
       clock = (clock_test (clock_at_start (summary_in_head numbers))).0 (and_from _ _ (and_from _ _ (and_from _ _ within few) free) block);
     }

@@ -1,10 +1,9 @@
 -- A device is made on a flash without one, whatever a power cut leaves of it.
-use Rattle.std.proofs.Common.{◌≡◌, ℕ, true, false, ◌+◌, ◌*◌, ◌^◌, ◌<◌, ◌≤◌, ◌⊎◌, inl, inr, List, arith, refl, sym, subst, lit<, ⊎_elim, get_or-set_same}
+use Rattle.std.proofs.Common.{◌≡◌, ℕ, true, false, ◌^◌, ◌<◌, ◌⊎◌, inl, inr, List, arith, refl, sym, subst, lit<, ⊎_elim, get_or-set_same}
 use Rattle.std.specs.Prelude.{slice_set}
 use Rattle.std.proofs.lemmas.Bool.{cases_Bool}
-use Rattle.paygo_spec.specs.declared.TheConstants.{LAST}
 use Rattle.paygo_spec.specs.declared.Config.{Config}
-use Rattle.paygo_spec.specs.Flash.{AreWords, HasOnesOf, TornErase, erased_bank}
+use Rattle.paygo_spec.specs.Flash.{HasOnesOf}
 use Rattle.paygo_spec.specs.Rail.{railed, is_railed}
 use Rattle.paygo_spec.specs.History.{fresh}
 use Rattle.paygo_spec.specs.Machine.{IsConfig}
@@ -14,38 +13,14 @@ use Rattle.paygo_spec.proofs.Windows.{fresh_keeps}
 use Rattle.word_rail.proofs.Bits.{railed_if_same, torn_of_railed}
 use Rattle.journal_laws.specs.Journal.{new_journal}
 use Rattle.journal_laws.specs.Banks.{BanksHold, BanksHoldNone, IsBegun, IsJournal, IsKeyBytes, IsQuiet}
-use Rattle.journal_laws.proofs.Words.{words_set, railed_number, railed_fits, railed_paired, erased_in, erased_out, erased_words}
-use Rattle.journal_laws.proofs.OtherHeader.{quiet_is, quiet_erased, quiet_behind, quiet_torn}
+use Rattle.journal_laws.proofs.Words.{words_set, railed_number, railed_fits, railed_paired}
+use Rattle.journal_laws.proofs.OtherHeader.{quiet_is, quiet_behind}
 use Rattle.journal_laws.proofs.Begin.{begun_whole, other_word}
 
 -- a new journal is in range
 pub new_ranges : (config : Config) → IsKeyBytes config.key → IsConfig config → IsJournal (new_journal config)
 new_ranges config key c =
-    record { bank = lit< tt; first = omega arith; last = omega arith; behind_head = omega arith; within = omega arith; key = key; config = c; summary = fresh_keeps LAST }
-
--- bank 0 was erased
-pub make_erased : (ws : List ℕ) → BanksHoldNone ws → BanksHoldNone (erased_bank 0 ws)
-make_erased ws h = record {
-  whole = erased_words ws 0 h.whole (lit< tt);
-  first = subst (λ x. IsQuiet x) (sym (erased_in ws 0 h.whole (lit< tt) 0 (lit< tt))) quiet_erased;
-  second = subst (λ x. IsQuiet x) (sym (erased_out ws 0 h.whole (lit< tt) 0 (lit< tt))) h.second;
-}
-
--- bank 0 was erased in part
-pub make_half_erased : (ws vs : List ℕ) → BanksHoldNone ws → AreWords vs → TornErase 0 ws vs → BanksHoldNone vs
-make_half_erased ws vs h are torn = record {
-  whole = are;
-  first = quiet_torn (word_at ws 0 0) (word_at vs 0 0) (h.whole.each (512 * 0 + 0)) (are.each (512 * 0 + 0)) (torn.inside (512 * 0 + 0) (omega arith) (omega arith)) h.first;
-  second = subst (λ x. IsQuiet x) (sym (torn.after (512 * 1 + 0) (omega arith))) h.second;
-}
-
--- a word behind the header of bank 0 was written, whole or torn
-pub make_word : (ws : List ℕ) (at t : ℕ) → 1 ≤ at → at < 512 → t < 2 ^ 64 → BanksHoldNone ws → BanksHoldNone (slice_set ws at t)
-make_word ws at t low few fits h = record {
-  whole = words_set ws at t h.whole fits;
-  first = subst (λ x. IsQuiet x) (sym (other_word ws at t 0 0 (λ q. omega arith))) h.first;
-  second = subst (λ x. IsQuiet x) (sym (other_word ws at t 1 0 (λ q. omega arith))) h.second;
-}
+    record { bank = lit< tt; first = omega arith; last = omega arith; behind_head = omega arith; within = omega arith; key = key; config = c; summary = fresh_keeps }
 
 -- the header was written whole
 pub make_whole : (ws : List ℕ) (config : Config) → IsKeyBytes config.key → IsConfig config → IsBegun ws 0 (head_number 1 config fresh) 12 → BanksHoldNone ws → BanksHold (slice_set ws 0 (railed 1)) (new_journal config)

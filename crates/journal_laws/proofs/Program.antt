@@ -1,14 +1,13 @@
 -- The word of an entry is programmed at the next place, whole or torn.
-use Rattle.std.proofs.Common.{◌≡◌, ◌≢◌, ℕ, true, false, ◌+◌, ◌-◌, ◌*◌, ◌^◌, ◌<◌, ◌≤◌, ◌==◌, ◌⊎◌, inl, inr, if◌then◌else◌, List, [], ◌∷◌, length, Ok, Some, refl, arith, sym, ◌∙◌, ap, subst, lit<, ⊎_elim, get_or-set_other, get_or-set_same}
+use Rattle.std.proofs.Common.{◌≡◌, ◌≢◌, ℕ, true, false, ◌+◌, ◌-◌, ◌*◌, ◌^◌, ◌<◌, ◌≤◌, ◌==◌, ◌⊎◌, inl, inr, if◌then◌else◌, List, [], ◌∷◌, length, Ok, Some, refl, arith, sym, ◌∙◌, ap, subst, ⊎_elim, get_or-set_other, get_or-set_same}
 use Rattle.std.specs.Prelude.{slice_set}
 use Rattle.std.proofs.Math.Nat.{div-le_self}
 use Rattle.std.proofs.lemmas.Bool.{cases_eq, cases_Bool}
 use Rattle.std.proofs.lemmas.Bool.Decides.{nat_tests}
-use Rattle.paygo_spec.specs.declared.TheConstants.{LAST}
 use Rattle.paygo_spec.specs.declared.Entry.{Entry}
 use Rattle.paygo_spec.specs.Flash.{AreWords, HasOnesOf, erased_word}
 use Rattle.paygo_spec.specs.Rail.{railed, is_railed, number_in}
-use Rattle.paygo_spec.specs.History.{Summary}
+use Rattle.paygo_spec.specs.History.{Summary, IsLimit}
 use Rattle.paygo_spec.specs.Clock.{unit_of}
 use Rattle.paygo_spec.specs.Lawful.{IsSummary, follows}
 use Rattle.paygo_spec.specs.Snapshot.{snapshot}
@@ -65,7 +64,7 @@ module _ (ws : List ℕ) (bank unit : ℕ) (s : Summary) (n t : ℕ) (few : n < 
       ∙ ap (λ x. if t == erased_word then x else n + 1) (used_same ws (slice_set ws (512 * bank + (12 + n)) t) bank n before_new ∙ sym (used_tail ws bank n 500 (omega arith) erased_old) ∙ u)
 
 -- a journal in range, at another place
-pub ranges_in : (j : JournalView) (summary : Summary) (place : ℕ) → IsJournal j → IsSummary LAST summary → 12 ≤ place → place ≤ 512 → IsJournal (in_place j summary place)
+pub ranges_in : (j : JournalView) (summary : Summary) (place : ℕ) → IsJournal j → IsSummary summary → 12 ≤ place → place ≤ 512 → IsJournal (in_place j summary place)
 ranges_in j summary place r k low high =
     record { bank = r.bank; first = r.first; last = r.last; behind_head = low; within = high; key = r.key; config = r.config; summary = k }
 
@@ -87,7 +86,7 @@ next_place_is t n place z =
 -- the words with one word more in the bank hold the journal with what the word makes of it
 built : (ws : List ℕ) (j : JournalView) (t : ℕ) (summary : Summary) (place : ℕ) → BanksHold ws j → j.at.place < 512 → t < 2 ^ 64
     → after_word (unit_of j.config.divider) (512 * j.bank + j.at.place) t (Ok j.summary) ≡ Ok summary
-    → place ≡ (if t == erased_word then j.at.place else j.at.place + 1) → IsSummary LAST summary
+    → place ≡ (if t == erased_word then j.at.place else j.at.place + 1) → IsSummary summary
     → BanksHold (slice_set ws (512 * j.bank + j.at.place) t) (in_place j summary place)
 built ws j t summary place h free fits a0 z0 keeps =
     subst
@@ -117,27 +116,28 @@ built ws j t summary place h free fits a0 z0 keeps =
     h.ranges.behind_head free a0 z0
 
 -- an entry that follows leads on by its number, and keeps the rules
-pub entry_next : (unit : ℕ) (s : Summary) (e : Entry) → follows LAST s e ≡ true → (next LAST unit s (number_of e) ≡ Some (snapshot unit s (e ∷ []))) × (number_of e < 2 ^ 32)
-entry_next unit s e f =
-    let h = may_has_number LAST unit s [] e (lit< tt) ((follows_is LAST unit s e).0 f).0 in
-    (ap (after_entry LAST unit s) (read_back e h) ∙ rw f refl, number_fits e h)
+pub entry_next : (unit : ℕ) (s : Summary) (e : Entry) → IsLimit s.limit → follows s e ≡ true → (next unit s (number_of e) ≡ Some (snapshot unit s (e ∷ []))) × (number_of e < 2 ^ 32)
+entry_next unit s e l f =
+    let k = (follows_is unit s e).0 f in
+    let h = may_has_number unit s [] e l k.1 k.0 in
+    (ap (after_entry unit s) (read_back e h) ∙ rw f refl, number_fits e h)
 
-pub entry_keeps : (divider : ℕ) (s : Summary) (e : Entry) → IsSummary LAST s → follows LAST s e ≡ true → IsSummary LAST (snapshot (unit_of divider) s (e ∷ []))
+pub entry_keeps : (divider : ℕ) (s : Summary) (e : Entry) → IsSummary s → follows s e ≡ true → IsSummary (snapshot (unit_of divider) s (e ∷ []))
 entry_keeps divider s e k f =
-    snapshot_keeps LAST (unit_of divider) s (e ∷ []) (div-le_self 86400 divider) (k, ((follows_is LAST (unit_of divider) s e).0 f).0)
+    snapshot_keeps (unit_of divider) s (e ∷ []) (div-le_self 86400 divider) (k, ((follows_is (unit_of divider) s e).0 f).0)
 
 -- what a word makes of the summary
-after_entry_word : (unit at w x : ℕ) (s more : Summary) → is_railed w ≡ true → number_in w ≡ x → next LAST unit s x ≡ Some more → after_word unit at w (Ok s) ≡ Ok more
+after_entry_word : (unit at w x : ℕ) (s more : Summary) → is_railed w ≡ true → number_in w ≡ x → next unit s x ≡ Some more → after_word unit at w (Ok s) ≡ Ok more
 after_entry_word unit at w x s more r n e = rw (r, n, e) refl
 
 after_torn_word : (unit at w : ℕ) (s : Summary) → is_railed w ≡ false → after_word unit at w (Ok s) ≡ Ok s
 after_torn_word unit at w s r = rw r refl
 
 -- the entry is programmed whole
-pub added : (ws : List ℕ) (j : JournalView) (e : Entry) → BanksHold ws j → j.at.place < 512 → follows LAST j.summary e ≡ true
+pub added : (ws : List ℕ) (j : JournalView) (e : Entry) → BanksHold ws j → j.at.place < 512 → follows j.summary e ≡ true
     → BanksHold (slice_set ws (512 * j.bank + j.at.place) (railed (number_of e))) (in_place j (summary_with j e) (j.at.place + 1))
 added ws j e h free f =
-    let q = entry_next (unit_of j.config.divider) j.summary e f in
+    let q = entry_next (unit_of j.config.divider) j.summary e h.ranges.summary.limited f in
     let r = railed_number (number_of e) q.1 in
     let ne : railed (number_of e) ≢ erased_word = λ z. (let b : is_railed (railed (number_of e)) ≡ false = ap is_railed z ∙ refl in let a = r.0 in cc) in
     built ws j (railed (number_of e)) (summary_with j e) (j.at.place + 1) h free (railed_fits (number_of e) q.1)
@@ -146,12 +146,12 @@ added ws j e h free f =
     (entry_keeps j.config.divider j.summary e h.ranges.summary f)
 
 -- the entry is torn: the journal is as before, or its place is used up, or it has the entry
-pub torn : (ws : List ℕ) (j : JournalView) (e : Entry) (t : ℕ) → BanksHold ws j → j.at.place < 512 → follows LAST j.summary e ≡ true → t < 2 ^ 64 → HasOnesOf (railed (number_of e)) t
+pub torn : (ws : List ℕ) (j : JournalView) (e : Entry) (t : ℕ) → BanksHold ws j → j.at.place < 512 → follows j.summary e ≡ true → t < 2 ^ 64 → HasOnesOf (railed (number_of e)) t
     → BanksHold (slice_set ws (512 * j.bank + j.at.place) t) j ⊎
     (BanksHold (slice_set ws (512 * j.bank + j.at.place) t) (in_place j j.summary (j.at.place + 1)) ⊎
     BanksHold (slice_set ws (512 * j.bank + j.at.place) t) (in_place j (summary_with j e) (j.at.place + 1)))
 torn ws j e t h free f fits ones =
-    let q = entry_next (unit_of j.config.divider) j.summary e f in
+    let q = entry_next (unit_of j.config.divider) j.summary e h.ranges.summary.limited f in
     let r = railed_number (number_of e) q.1 in
     let w = railed_fits (number_of e) q.1 in
     let p = railed_paired (number_of e) q.1 in

@@ -1,6 +1,5 @@
 -- What recovery finds is what some history leaves.
 use Rattle.std.proofs.Common.{◌≡◌, ℕ, List, [], refl, sym}
-use Rattle.paygo_spec.specs.declared.TheConstants.{LAST}
 use Rattle.paygo_spec.specs.Flash.{AreWords}
 use Rattle.paygo_spec.specs.Clock.{unit_of}
 use Rattle.paygo_spec.specs.Lawful.{IsSummary}
@@ -10,8 +9,8 @@ use Rattle.paygo_spec.proofs.Snapshots.{snapshot_start}
 use Rattle.journal_laws.proofs.Recovered.{made_holds}
 
 -- a device has the history that starts with its summary
-pub history_of : (journal : JournalView) → IsSummary LAST journal.summary → StandsAs (Made journal) (Journal (record { config = journal.config; start = journal.summary; entries = []; at = journal.at }))
-history_of journal rule = (refl, refl, sym (snapshot_start LAST (unit_of journal.config.divider) journal.summary rule), rule)
+pub history_of : (journal : JournalView) → IsSummary journal.summary → StandsAs (Made journal) (Journal (record { config = journal.config; start = journal.summary; entries = []; at = journal.at }))
+history_of journal rule = (refl, refl, sym (snapshot_start (unit_of journal.config.divider) journal.summary rule), rule)
 
 stands_by : (words : List ℕ) → AreWords words → (found : Recovered) → recover words ≡ found → (stored : Stored) × StandsAs found stored
 stands_by words are Unmade is = (Blank, tt)

@@ -1,19 +1,21 @@
 -- A full bank is left for the other one, whatever a power cut leaves of it.
 use Rattle.std.proofs.Common.{◌≡◌, ℕ, true, false, ◌+◌, ◌-◌, ◌*◌, ◌^◌, ◌<◌, ◌≤◌, ◌⊎◌, inl, inr, List, arith, sym, ◌∙◌, ap, subst, ⊎_elim, get_or-set_same}
 use Rattle.std.specs.Prelude.{slice_index, slice_set}
-use Rattle.std.proofs.lemmas.Bool.{cases_eq, cases_Bool}
+use Rattle.std.proofs.lemmas.Bool.{cases_Bool}
 use Rattle.std.proofs.lemmas.Bool.Decides.{nat_tests}
-use Rattle.paygo_spec.specs.Flash.{AreWords, HasOnesOf, TornErase, erased_word, erased_bank}
+use Rattle.paygo_spec.specs.Flash.{AreWords, HasOnesOf}
 use Rattle.paygo_spec.specs.Rail.{railed, is_railed}
+use Rattle.paygo_spec.specs.History.{Summary}
+use Rattle.paygo_spec.specs.Lawful.{IsSummary}
 use Rattle.paygo_spec.specs.Clock.{unit_of}
 use Rattle.paygo_spec.specs.Layout.{head_number, last_bank}
 use Rattle.paygo_spec.specs.Recovery.{JournalView, word_at}
 use Rattle.word_rail.proofs.Bits.{railed_if_same, torn_of_railed}
-use Rattle.journal_laws.specs.Journal.{turned_journal}
+use Rattle.journal_laws.specs.Journal.{begun_with}
 use Rattle.journal_laws.specs.Banks.{BanksHold, IsBegun, IsBehind}
-use Rattle.journal_laws.proofs.Words.{words_set, railed_number, railed_fits, railed_paired, erased_in, erased_out, erased_words}
+use Rattle.journal_laws.proofs.Words.{words_set, railed_number, railed_fits, railed_paired}
 use Rattle.journal_laws.proofs.Entries.{summary_same, used_same}
-use Rattle.journal_laws.proofs.OtherHeader.{quiet_is, quiet_erased, quiet_behind, behind_torn}
+use Rattle.journal_laws.proofs.OtherHeader.{quiet_is, quiet_behind}
 use Rattle.journal_laws.proofs.Begin.{begun_whole, other_word}
 
 -- what happens outside of the bank in use, but to the other header, doesn't matter
@@ -30,36 +32,6 @@ holds_outside ws vs j h are same behind =
       place = ap (λ x. 12 + x) (used_same ws vs j.bank 500 (λ k l. same (12 + k) (omega arith))) ∙ h.place;
     }
 
--- the other bank was erased
-pub turn_erased : (ws : List ℕ) (j : JournalView) → BanksHold ws j → BanksHold (erased_bank (1 - j.bank) ws) j
-turn_erased ws j h =
-    let two : j.bank < 2 = h.ranges.bank in
-    let back : 1 - (1 - j.bank) ≡ j.bank = omega arith in
-    let other : 1 - j.bank < 2 = omega arith in
-    holds_outside ws (erased_bank (1 - j.bank) ws) j h (erased_words ws (1 - j.bank) h.whole other)
-    (λ p l. subst (λ b. word_at (erased_bank (1 - j.bank) ws) b p ≡ word_at ws b p) back (erased_out ws (1 - j.bank) h.whole other p l))
-    (subst (λ x. IsBehind x j.at.number) (sym (erased_in ws (1 - j.bank) h.whole other 0 (omega arith))) (quiet_behind erased_word j.at.number quiet_erased))
-
--- the other bank was erased in part
-pub turn_half_erased : (ws vs : List ℕ) (j : JournalView) → BanksHold ws j → AreWords vs → TornErase (1 - j.bank) ws vs → BanksHold vs j
-turn_half_erased ws vs j h are torn =
-    let two : j.bank < 2 = h.ranges.bank in
-    holds_outside ws vs j h are
-    (λ p l. ⊎_elim
-    (λ (z : j.bank ≡ 0). torn.before (512 * j.bank + p) (omega arith))
-    (λ (z : j.bank ≡ 0 → ⊥). torn.after (512 * j.bank + p) (omega arith))
-    (cases_eq j.bank 0))
-    (behind_torn (word_at ws (1 - j.bank) 0) (word_at vs (1 - j.bank) 0) j.at.number (h.whole.each (512 * (1 - j.bank) + 0)) (are.each (512 * (1 - j.bank) + 0))
-    (torn.inside (512 * (1 - j.bank) + 0) (omega arith) (omega arith)) h.other)
-
--- a word behind the header of the other bank was written, whole or torn
-pub turn_word : (ws : List ℕ) (j : JournalView) (k at t : ℕ) → at ≡ 512 * (1 - j.bank) + k → 1 ≤ k → k < 512 → t < 2 ^ 64 → BanksHold ws j → BanksHold (slice_set ws at t) j
-turn_word ws j k at t is low few fits h =
-    let two : j.bank < 2 = h.ranges.bank in
-    holds_outside ws (slice_set ws at t) j h (words_set ws at t h.whole fits)
-    (λ p l. other_word ws at t j.bank p (λ q. omega arith))
-    (subst (λ x. IsBehind x j.at.number) (sym (other_word ws at t (1 - j.bank) 0 (λ q. omega arith))) h.other)
-
 -- the header in use counts for less than the next number
 own_behind : (ws : List ℕ) (j : JournalView) → BanksHold ws j → IsBehind (word_at ws j.bank 0) (j.at.number + 1)
 own_behind ws j h =
@@ -74,27 +46,27 @@ own_behind ws j h =
     })
 
 -- the header was written whole
-pub turn_whole : (ws : List ℕ) (j : JournalView) (at : ℕ) → at ≡ 512 * (1 - j.bank) → j.at.number < last_bank → IsBegun ws (1 - j.bank) (head_number (j.at.number + 1) j.config j.summary) 12
-    → BanksHold ws j → BanksHold (slice_set ws at (railed (j.at.number + 1))) (turned_journal j)
-turn_whole ws j at is few begun h =
+pub turn_whole : (ws : List ℕ) (j : JournalView) (s : Summary) (at : ℕ) → IsSummary s → at ≡ 512 * (1 - j.bank) → j.at.number < last_bank → IsBegun ws (1 - j.bank) (head_number (j.at.number + 1) j.config s) 12
+    → BanksHold ws j → BanksHold (slice_set ws at (railed (j.at.number + 1))) (begun_with s j)
+turn_whole ws j s at rule is few begun h =
     let two : j.bank < 2 = h.ranges.bank in
     let back : j.bank ≡ 1 - (1 - j.bank) = omega arith in
-    begun_whole ws (1 - j.bank) (j.at.number + 1) j.config j.summary at (omega arith) h.whole (omega arith) begun
-    (record { bank = omega arith; first = omega arith; last = omega arith; behind_head = omega arith; within = omega arith; key = h.ranges.key; config = h.ranges.config; summary = h.ranges.summary })
+    begun_whole ws (1 - j.bank) (j.at.number + 1) j.config s at (omega arith) h.whole (omega arith) begun
+    (record { bank = omega arith; first = omega arith; last = omega arith; behind_head = omega arith; within = omega arith; key = h.ranges.key; config = h.ranges.config; summary = rule })
     (subst (λ b. IsBehind (word_at ws b 0) (j.at.number + 1)) back (own_behind ws j h))
 
 -- the header was torn: the old bank is in use, or the new one
-pub turn_torn : (ws : List ℕ) (j : JournalView) (at t : ℕ) → at ≡ 512 * (1 - j.bank) → j.at.number < last_bank → IsBegun ws (1 - j.bank) (head_number (j.at.number + 1) j.config j.summary) 12
+pub turn_torn : (ws : List ℕ) (j : JournalView) (s : Summary) (at t : ℕ) → IsSummary s → at ≡ 512 * (1 - j.bank) → j.at.number < last_bank → IsBegun ws (1 - j.bank) (head_number (j.at.number + 1) j.config s) 12
     → t < 2 ^ 64 → HasOnesOf (railed (j.at.number + 1)) t → BanksHold ws j
-    → BanksHold (slice_set ws at t) j ⊎ BanksHold (slice_set ws at t) (turned_journal j)
-turn_torn ws j at t is few begun fits ones h =
+    → BanksHold (slice_set ws at t) j ⊎ BanksHold (slice_set ws at t) (begun_with s j)
+turn_torn ws j s at t rule is few begun fits ones h =
     let two : j.bank < 2 = h.ranges.bank in
     let n : j.at.number + 1 < 2 ^ 32 = omega arith in
     let w = railed_fits (j.at.number + 1) n in
     ⊎_elim
     (λ (r : is_railed t ≡ true).
     let same = railed_if_same (railed (j.at.number + 1)) t w fits (railed_paired (j.at.number + 1) n) ones r in
-    inr (subst (λ x. BanksHold (slice_set ws at x) (turned_journal j)) (sym same) (turn_whole ws j at is few begun h)))
+    inr (subst (λ x. BanksHold (slice_set ws at x) (begun_with s j)) (sym same) (turn_whole ws j s at rule is few begun h)))
     (λ (r : is_railed t ≡ false).
     let p = torn_of_railed (railed (j.at.number + 1)) t w fits (railed_number (j.at.number + 1) n).0 ones in
     let i : at < 1024 = omega arith in

@@ -1,8 +1,7 @@
 -- The kept fact on the banks: what the words of a flash are like while a device lives on it, at every moment, also where
 -- the power was cut.
 use Rattle.std.specs.Prelude.{◌≡◌, ℕ, ◌+◌, ◌-◌, ◌^◌, ◌<◌, ◌≤◌, true, false, List, length, slice_index, Ok}
-use Rattle.paygo_spec.specs.declared.TheConstants.{LAST}
-use Rattle.paygo_spec.specs.Flash.{AreWords, erased_word}
+use Rattle.paygo_spec.specs.Flash.{AreWords, HasOnesOf, erased_word}
 use Rattle.paygo_spec.specs.Rail.{railed, is_railed, number_in}
 use Rattle.paygo_spec.specs.History.{Summary}
 use Rattle.paygo_spec.specs.Clock.{unit_of}
@@ -39,7 +38,7 @@ pub record IsJournal (journal : JournalView) : Type 0 where
   pub within : journal.at.place ≤ 512
   pub key : IsKeyBytes journal.config.key
   pub config : IsConfig journal.config
-  pub summary : IsSummary LAST journal.summary
+  pub summary : IsSummary journal.summary
 
 -- The words hold a journal. The bank in use has its number in its header, and in its head the configuration and a summary
 -- `start`, each number in range. Behind it stand the entries, which lead from `start` to the summary of the journal, and
@@ -48,7 +47,7 @@ pub record BanksHold (words : List ℕ) (journal : JournalView) : Type 0 where
   pub start : Summary
   pub whole : AreWords words
   pub ranges : IsJournal journal
-  pub start_is : IsSummary LAST start
+  pub start_is : IsSummary start
   pub head : (place : ℕ) → place < 12 → word_at words journal.bank place ≡ railed (head_number journal.at.number journal.config start place)
   pub other : IsBehind (word_at words (1 - journal.bank) 0) journal.at.number
   pub entries : summary_after words journal.bank (unit_of journal.config.divider) start 500 ≡ Ok journal.summary
@@ -59,6 +58,11 @@ pub record BanksHoldNone (words : List ℕ) : Type 0 where
   pub whole : AreWords words
   pub first : IsQuiet (word_at words 0 0)
   pub second : IsQuiet (word_at words 1 0)
+
+-- What was done to a bank left the other one as it was, and each 1 bit of its own header.
+pub record LeavesOther (bank : ℕ) (old new : List ℕ) : Type 0 where
+  pub header : HasOnesOf (word_at old bank 0) (word_at new bank 0)
+  pub other : (place : ℕ) → place < 512 → word_at new (1 - bank) place ≡ word_at old (1 - bank) place
 
 -- A bank is being written: it is erased, but for the places of its head from 1 on and below `end`, where the numbers of a
 -- head with this number, configuration and summary stand.

@@ -2,6 +2,7 @@
 use Rattle.std.specs.Prelude.{◌≡◌, ℕ, ◌-◌, ◌⊎◌, Bool, ◌==◌, List, [], ◌∷◌, if◌then◌else◌}
 use Rattle.paygo_spec.specs.declared.Config.{Config}
 use Rattle.paygo_spec.specs.declared.Entry.{Entry}
+use Rattle.paygo_spec.specs.declared.Entry.TheVariants.{Raised}
 use Rattle.paygo_spec.specs.History.{Summary, fresh}
 use Rattle.paygo_spec.specs.Clock.{unit_of}
 use Rattle.paygo_spec.specs.Snapshot.{snapshot}
@@ -26,15 +27,23 @@ with_entry entry journal =
       summary = summary_with journal entry;
     }
 
--- The journal in the other bank, which has the next number and no entry yet. The summary goes on.
-abbrev pub turned_journal : JournalView → JournalView
-turned_journal journal =
+-- The journal in the other bank, which begins with this summary, and has the next number and no entry yet.
+abbrev pub begun_with : Summary → JournalView → JournalView
+begun_with summary journal =
     record {
       bank = 1 - journal.bank;
       at = turned journal.at;
       config = journal.config;
-      summary = journal.summary;
+      summary = summary;
     }
+
+-- The summary goes on.
+abbrev pub turned_journal : JournalView → JournalView
+turned_journal journal = begun_with journal.summary journal
+
+-- The device is raised: the next bank begins with the greater limit.
+abbrev pub raised_journal : JournalView → JournalView
+raised_journal journal = begun_with (summary_with journal Raised) journal
 
 -- What the words hold after the power was cut while an entry was added: the journal as before or with the entry, and the
 -- position that goes with it.

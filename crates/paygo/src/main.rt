@@ -1,9 +1,10 @@
-// The program `paygo`: its words are run over standard input, standard output and a file as the flash.
+// The program `paygo`: its words are run over standard input, standard output, a database of the shop and a file as the flash.
 #![tactic(auto)]
 
 ghost use Rattle.std.specs.Prelude.{◌≡◌};
 ghost use Rattle.paygo.specs.Exit.{exit_of};
 
+use keeper_sqlite::SqliteKeeper;
 use paygo_cli::{Status, message, run};
 use paygo_outside::{FlashFile, StdinSource, StdoutSink};
 use std::fs::{File, OpenOptions};
@@ -48,6 +49,8 @@ fn code(status: Status) -> u8
         Status::Usage => 2,
         Status::Read => 3,
         Status::Write => 4,
+        Status::Keep => 5,
+        Status::Memory => 6,
         Status::Long => 7,
     }
 }
@@ -66,24 +69,42 @@ fn run_words(rt: &HostRuntime) -> io::Result<Status> {
     run_texts(rt, words.as_slice())
 }
 
-// Runs these words.
+// The database and the flash file that the words name: `serve DB`, `device FLASH` and `bench DB FLASH`. What they don't name has
+// an empty path, and is never called.
+fn paths(words: &[String]) -> (&str, &str) {
+    match words {
+        [word, db] if word.as_str() == "serve" => (db.as_str(), ""),
+        [word, flash] if word.as_str() == "device" => ("", flash.as_str()),
+        [word, db, flash] if word.as_str() == "bench" => (db.as_str(), flash.as_str()),
+        _ => ("", ""),
+    }
+}
+
+// Runs these words. At the end the database is closed, so that its file stands alone.
 fn run_texts(rt: &HostRuntime, words: &[String]) -> io::Result<Status> {
-    let path = match words.get(1) {
-        Some(path) => path.as_str(),
-        None => "",
-    };
     let mut texts = Vec::new(rt.alloc());
     for word in words {
         texts.push(word.as_str())?;
     }
+    let (db, flash) = paths(words);
     let mut source = StdinSource::new(rt);
     let mut sink = StdoutSink::new(rt);
-    let mut flash = FlashFile::at(rt, String::from_str(rt.alloc(), path)?);
-    Ok(run::<Plain, StdinSource<HostRuntime>, StdoutSink<HostRuntime>, FlashFile<HostRuntime>>(
+    let mut keeper = SqliteKeeper::at(rt, String::from_str(rt.alloc(), db)?);
+    let mut flash = FlashFile::at(rt, String::from_str(rt.alloc(), flash)?);
+    let status = run::<
+        Plain,
+        StdinSource<HostRuntime>,
+        StdoutSink<HostRuntime>,
+        SqliteKeeper,
+        FlashFile<HostRuntime>,
+    >(
         rt.alloc(),
         texts.as_slice(),
         &mut source,
         &mut sink,
+        &mut keeper,
         &mut flash,
-    ))
+    );
+    let _ = keeper.close();
+    Ok(status)
 }

@@ -1,4 +1,5 @@
-pub mod Bytes
 pub mod Turning
 pub mod Looping
-pub mod Faultless
+pub mod Sides
+pub mod Promising
+pub mod Going

@@ -1,20 +1,18 @@
 // A flash in a file. What the system does is trusted: no clause can say which bytes a file holds.
-ghost use Rattle.std.specs.Prelude.{◌≡◌, ◌≤◌, true, false, None, IsErr};
+ghost use Rattle.std.specs.Prelude.{◌≡◌, ◌≤◌, ◌++◌, true, false, None, IfOk, OnOk, OnErr, IsErr, codes};
 ghost use Rattle.paygo_spec.specs.Faults.{Rose};
 ghost use Rattle.paygo_spec.specs.Flash.{FlashView, AreWords, Passes, Fails, Becomes, Stay, TornProgram, TornErase, erased_word, erased_bank, same_words};
 
-use crate::counts::count_fault;
+use crate::bytes::{bank_start, go_to, word_at, word_start, write_erased, write_whole, write_word};
+use crate::counts::settle;
 use crate::{Flash, FlashFault};
 use std::fs::{OpenFile, OpenOptions};
-use std::io::{ErrorKind, Read, Seek, SeekFrom, Write};
+use std::io::{ErrorKind, Write};
 use std::rt::Files;
 use std::{fs, io, str};
 
 // How many bytes the file has: 1,024 words of eight bytes.
 const BYTES: usize = 8192;
-
-// How many bytes a bank has: 512 words of eight bytes.
-const BANK_BYTES: usize = 4096;
 
 // How many bytes a path has at most, the end of its new name included: what systems take.
 const LONGEST: usize = 4096;
@@ -51,7 +49,9 @@ fn is_unmade<R: Files>(rt: &R, path: &str) -> io::Result<bool> {
 }
 
 // The path with `.new` behind it, in this buffer.
-fn new_path<'b>(path: &str, buf: &'b mut [u8; LONGEST]) -> io::Result<&'b str> {
+fn new_path<'b>(path: &str, buf: &'b mut [u8; LONGEST]) -> io::Result<&'b str>
+    ensures { IfOk result (λ text. text.now ≡ path.now ++ codes ".new") }
+{
     let length = path.len();
     if path.is_empty() || length > LONGEST - NEW.len() {
         return Err(io::Error::from(ErrorKind::InvalidFilename));
@@ -80,7 +80,7 @@ fn make_file<R: Files>(rt: &R, path: &str) -> io::Result<()> {
     let mut buf = [0; LONGEST];
     let beside = new_path(path, &mut buf)?;
     let mut file = fs::create(rt, beside)?;
-    file.write_all(&[0xff; BYTES])?;
+    write_whole(&mut file, &[0xff; BYTES])?;
     file.sync_all()?;
     fs::rename(rt, beside, path)?;
     sync_folder(rt, path)
@@ -98,43 +98,6 @@ fn open_file<R: Files>(rt: &R, path: &str) -> io::Result<R::File> {
     Ok(file)
 }
 
-// Opens the file where it isn't open yet.
-fn reopen<R: Files>(rt: &R, path: &str, file: &mut Option<R::File>) -> io::Result<()> {
-    if file.is_none() {
-        *file = Some(open_file(rt, path)?);
-    }
-    Ok(())
-}
-
-// The word that starts at this byte.
-fn read_word<F: Read + Seek>(file: &mut Option<F>, start: u64) -> io::Result<u64> {
-    match file {
-        Some(file) => {
-            let mut bytes = [0; 8];
-            file.seek(SeekFrom::Start(start))?;
-            file.read_exact(&mut bytes)?;
-            Ok(u64::from_be_bytes(bytes))
-        }
-        None => Err(io::Error::from(ErrorKind::NotFound)),
-    }
-}
-
-// Writes these bytes from this byte on, and waits until the disk has them.
-fn write_bytes<F: Write + Seek + OpenFile>(
-    file: &mut Option<F>,
-    start: u64,
-    bytes: &[u8],
-) -> io::Result<()> {
-    match file {
-        Some(file) => {
-            file.seek(SeekFrom::Start(start))?;
-            file.write_all(bytes)?;
-            file.sync_data()
-        }
-        None => Err(io::Error::from(ErrorKind::NotFound)),
-    }
-}
-
 impl<'a, R: Files> FlashFile<'a, R> {
     /// The flash in the file at this path. It is up, and nothing is opened yet.
     pub fn at(rt: &'a R, path: String) -> FlashFile<'a, R>
@@ -150,33 +113,75 @@ impl<'a, R: Files> FlashFile<'a, R> {
         }
     }
 
-    // Closes the file and goes down, with a fault counted.
-    fn fail<T>(&mut self) -> Result<T, FlashFault>
-        ensures err { IsErr result }
-        ensures down { self.new.up ≡ false }
+    // The file, opened where it isn't open. Who takes it puts it back where no call of it failed; else it is closed.
+    fn take_file(&mut self) -> io::Result<R::File>
+        ensures up { self.new.up ≡ self.old.up }
+        ensures faults { self.new.faults ≡ self.old.faults }
+    {
+        match self.file.take() {
+            Some(file) => Ok(file),
+            None => open_file(self.rt, self.path.as_str()),
+        }
+    }
+
+    fn try_open(&mut self) -> io::Result<()>
+        ensures up { self.new.up ≡ self.old.up }
+        ensures faults { self.new.faults ≡ self.old.faults }
+    {
+        let file = self.take_file()?;
+        self.file = Some(file);
+        Ok(())
+    }
+
+    fn try_read(&mut self, at: u16) -> io::Result<u64>
+        ensures up { self.new.up ≡ self.old.up }
+        ensures faults { self.new.faults ≡ self.old.faults }
+    {
+        let mut file = self.take_file()?;
+        let word = word_at(&mut file, at)?;
+        self.file = Some(file);
+        Ok(word)
+    }
+
+    // Writes the word, and waits until the disk has it.
+    fn try_program(&mut self, at: u16, word: u64) -> io::Result<()>
+        ensures up { self.new.up ≡ self.old.up }
+        ensures faults { self.new.faults ≡ self.old.faults }
+    {
+        let mut file = self.take_file()?;
+        go_to(&mut file, word_start(at))?;
+        write_word(&mut file, word)?;
+        file.sync_data()?;
+        self.file = Some(file);
+        Ok(())
+    }
+
+    // Writes the bank as erased, and waits until the disk has it.
+    fn try_erase(&mut self, bank: u8) -> io::Result<()>
+        ensures up { self.new.up ≡ self.old.up }
+        ensures faults { self.new.faults ≡ self.old.faults }
+    {
+        let mut file = self.take_file()?;
+        go_to(&mut file, bank_start(bank))?;
+        write_erased(&mut file)?;
+        file.sync_data()?;
+        self.file = Some(file);
+        Ok(())
+    }
+
+    // What the calls of the file came to. After an error the flash is down, with a fault counted.
+    fn settle<T>(&mut self, outcome: io::Result<T>) -> Result<T, FlashFault>
+        ensures given { IfOk outcome (λ value. result ≡ Ok value) }
+        ensures stays { OnOk outcome ((self.new.up ≡ self.old.up) × (self.new.faults ≡ self.old.faults)) }
+        ensures failed { OnErr outcome (IsErr result) }
+        ensures down { OnErr outcome (self.new.up ≡ false) }
+        ensures rose { OnErr outcome (Rose self.old.faults self.new.faults) }
         ensures later { self.old.faults ≤ self.new.faults }
-        ensures rose { Rose self.old.faults self.new.faults }
     {
-        self.file = None;
-        self.up = false;
-        count_fault(&mut self.faults);
-        Err(FlashFault)
-    }
-
-    fn try_read(&mut self, start: u64) -> io::Result<u64>
-        ensures up { self.new.up ≡ self.old.up }
-        ensures faults { self.new.faults ≡ self.old.faults }
-    {
-        reopen(self.rt, self.path.as_str(), &mut self.file)?;
-        read_word(&mut self.file, start)
-    }
-
-    fn try_write(&mut self, start: u64, bytes: &[u8]) -> io::Result<()>
-        ensures up { self.new.up ≡ self.old.up }
-        ensures faults { self.new.faults ≡ self.old.faults }
-    {
-        reopen(self.rt, self.path.as_str(), &mut self.file)?;
-        write_bytes(&mut self.file, start, bytes)
+        if outcome.is_err() {
+            self.up = false;
+        }
+        settle(outcome, FlashFault, &mut self.faults)
     }
 }
 
@@ -186,42 +191,33 @@ impl<'a, R: Files> Flash for FlashFile<'a, R> {
     ghost whole = { λ f. tt };
 
     fn power_up(&mut self) -> Result<(), FlashFault> {
-        match reopen(self.rt, self.path.as_str(), &mut self.file) {
-            Ok(()) => {
-                self.up = true;
-                Ok(())
-            }
-            Err(_) => self.fail(),
-        }
+        let outcome = self.try_open();
+        self.settle(outcome)?;
+        self.up = true;
+        Ok(())
     }
 
     fn read(&mut self, at: u16) -> Result<u64, FlashFault> {
         if !self.up {
             return Err(FlashFault);
         }
-        match self.try_read(8 * u64::from(at)) {
-            Ok(word) => Ok(word),
-            Err(_) => self.fail(),
-        }
+        let outcome = self.try_read(at);
+        self.settle(outcome)
     }
 
     fn program(&mut self, at: u16, word: u64) -> Result<(), FlashFault> {
         if !self.up {
             return Err(FlashFault);
         }
-        match self.try_write(8 * u64::from(at), &word.to_be_bytes()) {
-            Ok(()) => Ok(()),
-            Err(_) => self.fail(),
-        }
+        let outcome = self.try_program(at, word);
+        self.settle(outcome)
     }
 
     fn erase(&mut self, bank: u8) -> Result<(), FlashFault> {
         if !self.up {
             return Err(FlashFault);
         }
-        match self.try_write(4096 * u64::from(bank), &[0xff; BANK_BYTES]) {
-            Ok(()) => Ok(()),
-            Err(_) => self.fail(),
-        }
+        let outcome = self.try_erase(bank);
+        self.settle(outcome)
     }
 }

@@ -2,6 +2,7 @@
 // flash of a device, each as a trait, an object in memory and an adapter.
 #![tactic(auto)]
 
+mod bytes;
 mod counts;
 mod flash;
 mod flash_file;
@@ -12,17 +13,19 @@ mod sink;
 mod source;
 mod stdin_source;
 mod stdout_sink;
+mod watched;
 
 pub use flash::{Flash, FlashFault};
 pub use flash_file::FlashFile;
 pub use mem_flash::{Cut, MemFlash};
 pub use mem_sink::MemSink;
 pub use mem_source::MemSource;
-pub use paygo_spec::LAST;
+pub use paygo_spec::{GREAT, LAST};
 pub use sink::{Sink, WriteFault};
 pub use source::{ReadFault, Source};
 pub use stdin_source::StdinSource;
 pub use stdout_sink::StdoutSink;
+pub use watched::{WatchedSink, WatchedSource};
 
 /// How many words a flash has.
 pub const WORDS: u16 = 1024;

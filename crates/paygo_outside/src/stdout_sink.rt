@@ -2,10 +2,11 @@
 ghost use Rattle.std.specs.Prelude.{◌≡◌, None};
 ghost use Rattle.paygo_spec.specs.Streams.{SinkView, Takes, TakesNothing};
 
-use crate::counts::count_fault;
+use crate::bytes::write_some;
+use crate::counts::settle;
 use crate::{Sink, WriteFault};
 use std::io;
-use std::io::{Print, Write};
+use std::io::Print;
 
 /// Standard output of the runtime `R`. It tells no bytes.
 ///
@@ -31,12 +32,7 @@ impl<'a, R: Print> Sink for StdoutSink<'a, R> {
     ghost view = { λ s. record { written = None; faults = s.faults } };
 
     fn write(&mut self, bytes: &[u8]) -> Result<usize, WriteFault> {
-        match io::writer(self.rt).write(bytes) {
-            Ok(n) if n > 0 || bytes.is_empty() => Ok(n),
-            _ => {
-                count_fault(&mut self.faults);
-                Err(WriteFault)
-            }
-        }
+        let outcome = write_some(&mut io::writer(self.rt), bytes);
+        settle(outcome, WriteFault, &mut self.faults)
     }
 }

@@ -24,34 +24,34 @@ stays_spent start (Accept m v ∷ entries) n h = let i = stays_spent start entri
 stays_spent start (_ ∷ entries) n h = stays_spent start entries n h
 
 -- what is spent isn't valid
-spent_refused : (greatest : ℕ) (start : Summary) (entries : List Entry) (n v : ℕ) → spent start entries n ≡ true → n ≤ top start entries → Valid greatest start entries n v → ⊥
-spent_refused greatest start entries n v a b w = ⊎_elim (λ o. omega (arith, o.1)) (λ o. (let x = o.3 in cc)) w.2
+spent_refused : (start : Summary) (entries : List Entry) (n v : ℕ) → spent start entries n ≡ true → n ≤ top start entries → Valid start entries n v → ⊥
+spent_refused start entries n v a b w = ⊎_elim (λ o. omega (arith, o.1)) (λ o. (let x = o.3 in cc)) w.2
 
 -- a count is accepted at most once, and never where the start has it as spent
-pub once : (greatest unit : ℕ) (start : Summary) (entries : List Entry) (n : ℕ) → Lawful greatest unit start entries → accepts n entries ≤ 1
-once greatest unit start [] n h = omega arith
-once greatest unit start (Accept m v ∷ entries) n h =
+pub once : (unit : ℕ) (start : Summary) (entries : List Entry) (n : ℕ) → Lawful unit start entries → accepts n entries ≤ 1
+once unit start [] n h = omega arith
+once unit start (Accept m v ∷ entries) n h =
     ⊎_elim
     (λ (e : m ≡ n).
     let none : accepts n entries ≡ 0 =
     ⊎_elim (λ (z : accepts n entries < 1). omega arith)
     (λ (z : 1 ≤ accepts n entries). let i = accepted_spent start entries n z in
-    absurd (spent_refused greatest start entries n v i.0 i.1 (subst (λ x. Valid greatest start entries x v) e h.1.1)))
+    absurd (spent_refused start entries n v i.0 i.1 (subst (λ x. Valid start entries x v) e h.1.1)))
     (cases_lt (accepts n entries) 1) in
     grind (arith, nat_tests))
-    (λ (ne : m ≡ n → ⊥). let i : accepts n entries ≤ 1 = once greatest unit start entries n h.0 in grind (arith, nat_tests))
+    (λ (ne : m ≡ n → ⊥). let i : accepts n entries ≤ 1 = once unit start entries n h.0 in grind (arith, nat_tests))
     (cases_eq m n)
-once greatest unit start (_ ∷ entries) n h = once greatest unit start entries n h.0
+once unit start (_ ∷ entries) n h = once unit start entries n h.0
 
-pub never : (greatest unit : ℕ) (start : Summary) (entries : List Entry) (n : ℕ) → Lawful greatest unit start entries → spent start [] n ≡ true → accepts n entries ≡ 0
-never greatest unit start [] n h p = refl
-never greatest unit start (Accept m v ∷ entries) n h p =
+pub never : (unit : ℕ) (start : Summary) (entries : List Entry) (n : ℕ) → Lawful unit start entries → spent start [] n ≡ true → accepts n entries ≡ 0
+never unit start [] n h p = refl
+never unit start (Accept m v ∷ entries) n h p =
     ⊎_elim
     (λ (e : m ≡ n). let i = stays_spent start entries n p in
-    absurd (spent_refused greatest start entries n v i.0 i.1 (subst (λ x. Valid greatest start entries x v) e h.1.1)))
-    (λ (ne : m ≡ n → ⊥). let i : accepts n entries ≡ 0 = never greatest unit start entries n h.0 p in grind (arith, nat_tests))
+    absurd (spent_refused start entries n v i.0 i.1 (subst (λ x. Valid start entries x v) e h.1.1)))
+    (λ (ne : m ≡ n → ⊥). let i : accepts n entries ≡ 0 = never unit start entries n h.0 p in grind (arith, nat_tests))
     (cases_eq m n)
-never greatest unit start (_ ∷ entries) n h p = never greatest unit start entries n h.0 p
+never unit start (_ ∷ entries) n h p = never unit start entries n h.0 p
 
 -- the test of what is spent is the fact
 more_spent : (start : Summary) (entries : List Entry) (n v m : ℕ) → IsSpent start entries m → IsSpent start (Accept n v ∷ entries) m

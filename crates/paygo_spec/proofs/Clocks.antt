@@ -4,7 +4,7 @@ use Rattle.std.proofs.lemmas.Bool.{cond_both, leb-true, and_parts, and_from, cas
 use Rattle.std.proofs.lemmas.Bool.Decides.{nat_tests}
 use Rattle.std.proofs.Math.Nat.{mul-le-mul}
 use Rattle.paygo_spec.specs.declared.Entry.{Entry}
-use Rattle.paygo_spec.specs.declared.Entry.TheVariants.{Accept, Bad, Elapsed}
+use Rattle.paygo_spec.specs.declared.Entry.TheVariants.{Accept, Bad, Elapsed, Raised}
 use Rattle.paygo_spec.specs.History.{Summary, is_odd}
 use Rattle.paygo_spec.specs.Clock.{ClockView, most_left, clock_after, clock_of, longest_block, IsClock, is_clock}
 use Rattle.paygo_spec.specs.Lawful.{Lawful}
@@ -23,15 +23,16 @@ credit_keeps unit n v t u k b =
     (λ f. record { within = k.within; few = omega arith; freed = k.freed; unblocked = λ z. b; bounded = omega arith })
     (λ f. record { within = omega arith; few = omega arith; freed = λ z. cc; unblocked = λ z. b; bounded = omega arith }))
 
-pub clock_keeps : (greatest unit : ℕ) (start : Summary) (entries : List Entry) → unit ≤ 86400 → Lawful greatest unit start entries → IsClock (clock_of unit start entries)
-clock_keeps greatest unit start [] u h = h.clock
-clock_keeps greatest unit start (Accept n v ∷ entries) u h = credit_keeps unit n v (clock_of unit start entries) u (clock_keeps greatest unit start entries u h.0) h.1.0
-clock_keeps greatest unit start (Bad ∷ entries) u h =
-    let k : IsClock (clock_of unit start entries) = clock_keeps greatest unit start entries u h.0 in
+pub clock_keeps : (unit : ℕ) (start : Summary) (entries : List Entry) → unit ≤ 86400 → Lawful unit start entries → IsClock (clock_of unit start entries)
+clock_keeps unit start [] u h = h.clock
+clock_keeps unit start (Accept n v ∷ entries) u h = credit_keeps unit n v (clock_of unit start entries) u (clock_keeps unit start entries u h.0) h.1.0
+clock_keeps unit start (Bad ∷ entries) u h =
+    let k : IsClock (clock_of unit start entries) = clock_keeps unit start entries u h.0 in
     record { within = k.within; few = omega arith; freed = k.freed; unblocked = λ z. absurd (omega arith); bounded = omega arith }
-clock_keeps greatest unit start (Elapsed t ∷ entries) u h =
-    let k : IsClock (clock_of unit start entries) = clock_keeps greatest unit start entries u h.0 in
+clock_keeps unit start (Elapsed t ∷ entries) u h =
+    let k : IsClock (clock_of unit start entries) = clock_keeps unit start entries u h.0 in
     record { within = omega arith; few = k.few; freed = λ z. (let y : (clock_of unit start entries).left ≡ 0 = k.freed z in omega arith); unblocked = λ z. (let y : (clock_of unit start entries).block ≡ 0 = k.unblocked z in omega arith); bounded = omega arith }
+clock_keeps unit start (Raised ∷ entries) u h = clock_keeps unit start entries u h.0
 
 -- the test of the rule on clocks is the rule
 pub clock_test : (clock : ClockView) → ((is_clock clock ≡ true) ↔ IsClock clock)

@@ -24,27 +24,27 @@ unspent_above start (Accept n v ∷ entries) m h = grind (arith, nat_tests, unsp
 unspent_above start (_ ∷ entries) m h = unspent_above start entries m h
 
 -- below a spent odd count every count is spent
-pub spent_below : (greatest : ℕ) (start : Summary) (entries : List Entry) (m k : ℕ) → IsWindow greatest start.last start.bits → is_odd m ≡ true → spent start entries m ≡ true → 1 ≤ k → k < m → spent start entries k ≡ true
-spent_below greatest start [] m k w o h l b =
+pub spent_below : (start : Summary) (entries : List Entry) (m k : ℕ) → IsWindow start.limit start.last start.bits → is_odd m ≡ true → spent start entries m ≡ true → 1 ≤ k → k < m → spent start entries k ≡ true
+spent_below start [] m k w o h l b =
     let t : (start.last - k < 16) → (m ≤ start.last) → bit_at start.bits (start.last - m) ≡ 1 → bit_at start.bits (start.last - k) ≡ 1 =
     λ p q r. w.overtaken (start.last - m) (start.last - k) m (omega arith) p (omega arith) (omega arith) o r in
     grind (arith, nat_tests)
-spent_below greatest start (Accept n v ∷ entries) m k w o h l b =
-    let i : spent start entries m ≡ true → spent start entries k ≡ true = λ g. spent_below greatest start entries m k w o g l b in
+spent_below start (Accept n v ∷ entries) m k w o h l b =
+    let i : spent start entries m ≡ true → spent start entries k ≡ true = λ g. spent_below start entries m k w o g l b in
     ⊎_elim
     (λ (e : m ≡ n). let p : is_odd n ≡ true = subst (λ x. is_odd x ≡ true) e o in grind (arith, nat_tests))
     (λ (ne : m ≡ n → ⊥). grind (arith, nat_tests))
     (cases_eq m n)
-spent_below greatest start (_ ∷ entries) m k w o h l b = spent_below greatest start entries m k w o h l b
+spent_below start (_ ∷ entries) m k w o h l b = spent_below start entries m k w o h l b
 
 -- the greatest accepted count is spent
-pub top_spent : (greatest : ℕ) (start : Summary) (entries : List Entry) (m : ℕ) → m ≡ top start entries → IsWindow greatest start.last start.bits → 1 ≤ m → spent start entries m ≡ true
-top_spent greatest start [] m e w l =
+pub top_spent : (start : Summary) (entries : List Entry) (m : ℕ) → m ≡ top start entries → IsWindow start.limit start.last start.bits → 1 ≤ m → spent start entries m ≡ true
+top_spent start [] m e w l =
     let z : start.last - m ≡ 0 = omega arith in
     rw z (rw w.last_spent (grind (arith, nat_tests)))
-top_spent greatest start (Accept n v ∷ entries) m e w l =
+top_spent start (Accept n v ∷ entries) m e w l =
     ⊎_elim
-    (λ (a : n < m). let i : spent start entries m ≡ true = top_spent greatest start entries m (omega arith) w l in grind (arith, nat_tests))
+    (λ (a : n < m). let i : spent start entries m ≡ true = top_spent start entries m (omega arith) w l in grind (arith, nat_tests))
     (λ (a : m ≤ n). let q : m ≡ n = omega arith in grind (arith, nat_tests))
     (cases_lt n m)
-top_spent greatest start (_ ∷ entries) m e w l = top_spent greatest start entries m e w l
+top_spent start (_ ∷ entries) m e w l = top_spent start entries m e w l

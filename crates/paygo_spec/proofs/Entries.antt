@@ -3,8 +3,8 @@ use Rattle.std.proofs.Common.{◌≡◌, ℕ, Bool, true, false, ◌+◌, ◌*�
 use Rattle.std.proofs.lemmas.Bool.{cases_Bool, and_parts}
 use Rattle.std.proofs.lemmas.Bool.Decides.{nat_tests}
 use Rattle.paygo_spec.specs.declared.Entry.{Entry}
-use Rattle.paygo_spec.specs.declared.Entry.TheVariants.{Accept, Bad, Elapsed}
-use Rattle.paygo_spec.specs.History.{Summary, is_odd, Valid, is_valid}
+use Rattle.paygo_spec.specs.declared.Entry.TheVariants.{Accept, Bad, Elapsed, Raised}
+use Rattle.paygo_spec.specs.History.{Summary, first_limit, raised_limit, limit_of, IsLimit, reach, is_odd, Valid, is_valid}
 use Rattle.paygo_spec.specs.Window.{alone, StandsFor}
 use Rattle.paygo_spec.specs.Lawful.{MayFollow, IsWritten, follows}
 use Rattle.paygo_spec.specs.Snapshot.{snapshot}
@@ -13,37 +13,40 @@ use Rattle.paygo_spec.proofs.Windows.{same_valid}
 use Rattle.paygo_spec.proofs.Snapshots.{snapshot_more, snapshot_may}
 
 -- the test of what is valid is the rule
-pub valid_is : (greatest : ℕ) (start : Summary) (entries : List Entry) (m v : ℕ) → ((is_valid greatest start entries m v ≡ true) ↔ Valid greatest start entries m v)
-valid_is greatest start entries m v =
+pub valid_is : (start : Summary) (entries : List Entry) (m v : ℕ) → ((is_valid start entries m v ≡ true) ↔ Valid start entries m v)
+valid_is start entries m v =
     ⊎_elim (λ (o : is_odd m ≡ true). rw o (grind (arith, nat_tests))) (λ (o : is_odd m ≡ false). rw o (grind (arith, nat_tests))) (cases_Bool (is_odd m))
 
 -- the test of what follows is the rule
-pub follows_is : (greatest unit : ℕ) (start : Summary) (e : Entry) → ((follows greatest start e ≡ true) ↔ (MayFollow greatest unit start [] e × IsWritten e))
-follows_is greatest unit start (Accept n v) =
-    let q = valid_is greatest start [] n v in (
+pub follows_is : (unit : ℕ) (start : Summary) (e : Entry) → ((follows start e ≡ true) ↔ (MayFollow unit start [] e × IsWritten e))
+follows_is unit start (Accept n v) =
+    let q = valid_is start [] n v in (
       λ h. (let p = and_parts _ _ h in let b : (start.block == 0) ≡ true = p.0 in ((grind (arith, nat_tests), q.0 p.1), tt)),
       λ h. let b : start.block ≡ 0 = h.0.0 in rw (b, q.1 h.0.1) refl,
     )
-follows_is greatest unit start Bad = (λ h. (grind (arith, nat_tests), tt), λ h. let b : start.block ≡ 0 = h.0 in rw b refl)
-follows_is greatest unit start (Elapsed t) = (λ h. (grind (arith, nat_tests), grind (arith, nat_tests)), λ h. let a : t ≤ 999999999 = h.0 in let b : 1 ≤ t = h.1 in grind (arith, nat_tests))
+follows_is unit start Bad = (λ h. (grind (arith, nat_tests), tt), λ h. let b : start.block ≡ 0 = h.0 in rw b refl)
+follows_is unit start (Elapsed t) = (λ h. (grind (arith, nat_tests), grind (arith, nat_tests)), λ h. let a : t ≤ 999999999 = h.0 in let b : 1 ≤ t = h.1 in grind (arith, nat_tests))
+follows_is unit start Raised = (λ h. cc, λ h. absurd h.1)
 
 -- an entry is read back from its number
 pub read_back : (e : Entry) → HasNumber e → entry_of (number_of e) ≡ Some e
 read_back (Accept n v) h = let a : (n * 1024 + v) / 1024 ≡ n = omega arith in let b : (n * 1024 + v) % 1024 ≡ v = omega arith in grind (arith, nat_tests)
 read_back Bad h = refl
 read_back (Elapsed t) h = let a : (2147483648 + t) / 1073741824 ≡ 2 = omega arith in let b : (2147483648 + t) % 1073741824 ≡ t = omega arith in grind (arith, nat_tests)
+read_back Raised h = absurd h
 
--- an entry that may follow has a number
-pub may_has_number : (greatest unit : ℕ) (start : Summary) (entries : List Entry) (e : Entry) → greatest < 2 ^ 14 → MayFollow greatest unit start entries e → HasNumber e
-may_has_number greatest unit start entries (Accept n v) g h = let k = h.1.1 in (omega arith, ⊎_elim (λ o. ⊎_elim (λ (a : v ≤ 995). omega arith) (λ o. ⊎_elim (λ (a : v ≡ 998). omega arith) (λ (a : v ≡ 999). omega arith) o) o.2) (λ o. omega (arith, o.1)) h.1.2)
-may_has_number greatest unit start entries Bad g h = tt
-may_has_number greatest unit start entries (Elapsed t) g h = omega arith
+-- an entry that is written and may follow has a number
+pub may_has_number : (unit : ℕ) (start : Summary) (entries : List Entry) (e : Entry) → IsLimit (limit_of start entries) → IsWritten e → MayFollow unit start entries e → HasNumber e
+may_has_number unit start entries (Accept n v) g w h = let k : n ≤ reach start entries v = h.1.1 in (⊎_elim (λ (l : limit_of start entries ≡ first_limit). omega arith) (λ (l : limit_of start entries ≡ raised_limit). omega arith) g, ⊎_elim (λ o. ⊎_elim (λ (a : v ≤ 995). omega arith) (λ o. ⊎_elim (λ (a : v ≡ 998). omega arith) (λ (a : v ≡ 999). omega arith) o) o.2) (λ o. omega (arith, o.1)) h.1.2)
+may_has_number unit start entries Bad g w h = tt
+may_has_number unit start entries (Elapsed t) g w h = omega arith
+may_has_number unit start entries Raised g w h = absurd w
 
 -- an entry that may follow a history is read as the snapshot of the history with it
-pub next_is : (greatest unit : ℕ) (start : Summary) (entries : List Entry) (e : Entry) → HasNumber e → IsWritten e → MayFollow greatest unit start entries e → next greatest unit (snapshot unit start entries) (number_of e) ≡ Some (snapshot unit start (e ∷ entries))
-next_is greatest unit start entries e r k h =
-    let f : follows greatest (snapshot unit start entries) e ≡ true = (follows_is greatest unit (snapshot unit start entries) e).1 ((snapshot_may greatest unit start entries e).0 h, k) in
-    ap (after_entry greatest unit (snapshot unit start entries)) (read_back e r) ∙ (rw f (ap Some (sym (snapshot_more unit start entries e))))
+pub next_is : (unit : ℕ) (start : Summary) (entries : List Entry) (e : Entry) → HasNumber e → IsWritten e → MayFollow unit start entries e → next unit (snapshot unit start entries) (number_of e) ≡ Some (snapshot unit start (e ∷ entries))
+next_is unit start entries e r k h =
+    let f : follows (snapshot unit start entries) e ≡ true = (follows_is unit (snapshot unit start entries) e).1 ((snapshot_may unit start entries e).0 h, k) in
+    ap (after_entry unit (snapshot unit start entries)) (read_back e r) ∙ (rw f (ap Some (sym (snapshot_more unit start entries e))))
 
 -- two tests of one fact agree
 same_test : (a b : Bool) → (a ≡ true → b ≡ true) → (b ≡ true → a ≡ true) → a ≡ b
@@ -52,11 +55,11 @@ same_test false true f g = g refl
 same_test false false f g = refl
 
 -- the test on a window agrees with the test on each history that it stands for
-pub valid_same : (greatest : ℕ) (start : Summary) (entries : List Entry) (last bits m v : ℕ) → StandsFor last bits start entries → is_valid greatest start entries m v ≡ is_valid greatest (alone last bits) [] m v
-valid_same greatest start entries last bits m v w =
-    let here = valid_is greatest start entries m v in
-    let there = valid_is greatest (alone last bits) [] m v in
-    let same = same_valid greatest start entries last bits m v w in
+pub valid_same : (start : Summary) (entries : List Entry) (limit last bits m v : ℕ) → StandsFor limit last bits start entries → is_valid start entries m v ≡ is_valid (alone limit last bits) [] m v
+valid_same start entries limit last bits m v w =
+    let here = valid_is start entries m v in
+    let there = valid_is (alone limit last bits) [] m v in
+    let same = same_valid start entries limit last bits m v w in
     same_test _ _ (λ h. there.1 (same.0 (here.0 h))) (λ h. here.1 (same.1 (there.0 h)))
 
 -- the number of an entry that has one
@@ -64,6 +67,7 @@ pub number_fits : (e : Entry) → HasNumber e → number_of e < 2 ^ 32
 number_fits (Accept n v) h = omega arith
 number_fits Bad h = omega arith
 number_fits (Elapsed t) h = omega arith
+number_fits Raised h = absurd h
 
 -- an entry that was read has that number
 pub number_back : (x : ℕ) (e : Entry) → entry_of x ≡ Some e → HasNumber e × (number_of e ≡ x)
@@ -91,17 +95,17 @@ number_back x e h =
     (cases_Bool (nat_lt x (2 ^ 24)))
 
 -- a number is read as a summary only where it is an entry that follows
-taken_on : (greatest unit : ℕ) (start t : Summary) (o : Option Entry) → after_entry greatest unit start o ≡ Some t → (e : Entry) × (o ≡ Some e) × (follows greatest start e ≡ true) × (t ≡ snapshot unit start (e ∷ []))
-taken_on greatest unit start t None h = cc
-taken_on greatest unit start t (Some e) h =
+taken_on : (unit : ℕ) (start t : Summary) (o : Option Entry) → after_entry unit start o ≡ Some t → (e : Entry) × (o ≡ Some e) × (follows start e ≡ true) × (t ≡ snapshot unit start (e ∷ []))
+taken_on unit start t None h = cc
+taken_on unit start t (Some e) h =
     ⊎_elim
-    (λ (f : follows greatest start e ≡ true). let q : Some (snapshot unit start (e ∷ [])) ≡ Some t = rw f at h in (e, refl, f, cc))
-    (λ (f : follows greatest start e ≡ false). let q : None ≡ Some t = rw f at h in cc)
-    (cases_Bool (follows greatest start e))
+    (λ (f : follows start e ≡ true). let q : Some (snapshot unit start (e ∷ [])) ≡ Some t = rw f at h in (e, refl, f, cc))
+    (λ (f : follows start e ≡ false). let q : None ≡ Some t = rw f at h in cc)
+    (cases_Bool (follows start e))
 
-pub read_entry : (greatest unit : ℕ) (start : Summary) (entries : List Entry) (x : ℕ) (t : Summary) → next greatest unit (snapshot unit start entries) x ≡ Some t → (e : Entry) × (number_of e ≡ x) × (MayFollow greatest unit start entries e × IsWritten e) × (t ≡ snapshot unit start (e ∷ entries))
-read_entry greatest unit start entries x t h =
-    let k = taken_on greatest unit (snapshot unit start entries) t (entry_of x) h in
+pub read_entry : (unit : ℕ) (start : Summary) (entries : List Entry) (x : ℕ) (t : Summary) → next unit (snapshot unit start entries) x ≡ Some t → (e : Entry) × (number_of e ≡ x) × (MayFollow unit start entries e × IsWritten e) × (t ≡ snapshot unit start (e ∷ entries))
+read_entry unit start entries x t h =
+    let k = taken_on unit (snapshot unit start entries) t (entry_of x) h in
     let n = number_back x k.0 k.1 in
-    let f = (follows_is greatest unit (snapshot unit start entries) k.0).0 k.2 in
-    (k.0, n.1, ((snapshot_may greatest unit start entries k.0).1 f.0, f.1), k.3 ∙ sym (snapshot_more unit start entries k.0))
+    let f = (follows_is unit (snapshot unit start entries) k.0).0 k.2 in
+    (k.0, n.1, ((snapshot_may unit start entries k.0).1 f.0, f.1), k.3 ∙ sym (snapshot_more unit start entries k.0))

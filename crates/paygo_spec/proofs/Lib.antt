@@ -6,3 +6,6 @@ pub mod Snapshots
 pub mod Entries
 pub mod Accepts
 pub mod Leasts
+pub mod Searching
+pub mod StayingFound
+pub mod CleanTokens

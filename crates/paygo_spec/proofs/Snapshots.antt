@@ -5,12 +5,12 @@ use Rattle.std.proofs.lemmas.Bool.Decides.{nat_tests}
 use Rattle.std.proofs.lemmas.Nat.Bits.{bit_at_cat_low, bit_at_cat_high, same_from_bits_below, bit_at_above}
 use Rattle.std.specs.Int.{bit_at}
 use Rattle.paygo_spec.specs.declared.Entry.{Entry}
-use Rattle.paygo_spec.specs.declared.Entry.TheVariants.{Accept, Bad, Elapsed}
-use Rattle.paygo_spec.specs.History.{Summary, top, spent, is_odd, Valid}
+use Rattle.paygo_spec.specs.declared.Entry.TheVariants.{Accept, Bad, Elapsed, Raised}
+use Rattle.paygo_spec.specs.History.{Summary, limit_of, top, spent, is_odd, Valid}
 use Rattle.paygo_spec.specs.Window.{WindowView, bit, StandsFor}
 use Rattle.paygo_spec.specs.Lawful.{IsSummary, Lawful, MayFollow}
 use Rattle.paygo_spec.specs.Snapshot.{bits_of, is_used, window_of, snapshot}
-use Rattle.paygo_spec.proofs.Windows.{stands_at_start, same_spent, same_valid, keeps_rule}
+use Rattle.paygo_spec.proofs.Windows.{stands_at_start, same_spent, same_valid, limit_kept, keeps_rule}
 use Rattle.paygo_spec.proofs.Clocks.{clock_keeps}
 
 -- a number of n bits is below 2^n, and its bits are those that it was made of
@@ -42,8 +42,9 @@ bits_same f g zero h = refl
 bits_same f g (suc n) h = let a : f n ≡ g n = h n (omega arith) in let b : bits_of f n ≡ bits_of g n = bits_same f g n (λ i l. h i (omega arith)) in rw (a, b) refl
 
 -- the window of the snapshot stands for the history
-pub snapshot_stands : (unit : ℕ) (start : Summary) (entries : List Entry) → StandsFor (snapshot unit start entries).last (snapshot unit start entries).bits start entries
+pub snapshot_stands : (unit : ℕ) (start : Summary) (entries : List Entry) → StandsFor (snapshot unit start entries).limit (snapshot unit start entries).last (snapshot unit start entries).bits start entries
 snapshot_stands unit start entries = record {
+  limit_is = refl;
   top_is = refl;
   fits = bits_below (is_used start entries) 16;
   spent_is = λ i m h e l. bits_at (is_used start entries) 16 i h ∙ (let z : top start entries - i ≡ m = omega arith in let y : nat_lt i (top start entries) ≡ true = grind (arith, nat_tests) in rw (y, z) refl);
@@ -52,8 +53,8 @@ snapshot_stands unit start entries = record {
 }
 
 -- a window of the history is that of its snapshot
-pub window_is : (start : Summary) (entries : List Entry) (last bits : ℕ) → StandsFor last bits start entries → bits ≡ bits_of (is_used start entries) 16
-window_is start entries last bits w =
+pub window_is : (start : Summary) (entries : List Entry) (limit last bits : ℕ) → StandsFor limit last bits start entries → bits ≡ bits_of (is_used start entries) 16
+window_is start entries limit last bits w =
     let v = snapshot_stands 0 start entries in
     let e : last ≡ top start entries = w.top_is in
     same_from_bits_below 16 bits _ w.fits v.fits
@@ -64,7 +65,7 @@ window_is start entries last bits w =
 
 -- what a snapshot forgets doesn't matter
 pub snapshot_spent : (unit : ℕ) (start : Summary) (entries : List Entry) (m : ℕ) → 1 ≤ m → top start entries < m + 16 → spent start entries m ≡ spent (snapshot unit start entries) [] m
-snapshot_spent unit start entries m l h = same_spent start entries (snapshot unit start entries).last (snapshot unit start entries).bits m (snapshot_stands unit start entries) l h
+snapshot_spent unit start entries m l h = same_spent start entries (snapshot unit start entries).limit (snapshot unit start entries).last (snapshot unit start entries).bits m (snapshot_stands unit start entries) l h
 
 used_after : (unit : ℕ) (start : Summary) (entries : List Entry) (e : Entry) (i : ℕ) → i < 16 → is_used start (e ∷ entries) i ≡ is_used (snapshot unit start entries) (e ∷ []) i
 used_after unit start entries (Accept n v) i h =
@@ -91,41 +92,44 @@ snapshot_more unit start entries e =
       | Accept n v ↦ λ q. ap (with_bits (snapshot unit start (Accept n v ∷ entries))) q
       | Bad ↦ λ q. ap (with_bits (snapshot unit start (Bad ∷ entries))) q
       | Elapsed t ↦ λ q. ap (with_bits (snapshot unit start (Elapsed t ∷ entries))) q
+      | Raised ↦ λ q. ap (with_bits (snapshot unit start (Raised ∷ entries))) q
     ] b
 
 -- a summary is the snapshot of the history that starts with it
-pub snapshot_start : (greatest unit : ℕ) (start : Summary) → IsSummary greatest start → snapshot unit start [] ≡ start
-snapshot_start greatest unit start h =
-    let b : bits_of (is_used start []) 16 ≡ start.bits = sym (window_is start [] start.last start.bits (stands_at_start greatest start h.window)) in
+pub snapshot_start : (unit : ℕ) (start : Summary) → IsSummary start → snapshot unit start [] ≡ start
+snapshot_start unit start h =
+    let b : bits_of (is_used start []) 16 ≡ start.bits = sym (window_is start [] start.limit start.last start.bits (stands_at_start start h.window)) in
     ap (with_bits start) b
 
 -- what may follow is decided by the snapshot
-pub snapshot_valid : (greatest unit : ℕ) (start : Summary) (entries : List Entry) (m v : ℕ) → (Valid greatest start entries m v ↔ Valid greatest (snapshot unit start entries) [] m v)
-snapshot_valid greatest unit start entries m v = same_valid greatest start entries (snapshot unit start entries).last (snapshot unit start entries).bits m v (snapshot_stands unit start entries)
+pub snapshot_valid : (unit : ℕ) (start : Summary) (entries : List Entry) (m v : ℕ) → (Valid start entries m v ↔ Valid (snapshot unit start entries) [] m v)
+snapshot_valid unit start entries m v = same_valid start entries (snapshot unit start entries).limit (snapshot unit start entries).last (snapshot unit start entries).bits m v (snapshot_stands unit start entries)
 
-pub snapshot_may : (greatest unit : ℕ) (start : Summary) (entries : List Entry) (e : Entry) → (MayFollow greatest unit start entries e ↔ MayFollow greatest unit (snapshot unit start entries) [] e)
-snapshot_may greatest unit start entries (Accept n v) =
-    let q = snapshot_valid greatest unit start entries n v in
+pub snapshot_may : (unit : ℕ) (start : Summary) (entries : List Entry) (e : Entry) → (MayFollow unit start entries e ↔ MayFollow unit (snapshot unit start entries) [] e)
+snapshot_may unit start entries (Accept n v) =
+    let q = snapshot_valid unit start entries n v in
     (λ h. (h.0, q.0 h.1), λ h. (h.0, q.1 h.1))
-snapshot_may greatest unit start entries (Bad) = (λ h. h, λ h. h)
-snapshot_may greatest unit start entries (Elapsed t) = (λ h. h, λ h. h)
+snapshot_may unit start entries (Bad) = (λ h. h, λ h. h)
+snapshot_may unit start entries (Elapsed t) = (λ h. h, λ h. h)
+snapshot_may unit start entries Raised = (λ h. h, λ h. h)
 
 -- the snapshot of a lawful history keeps both rules
-pub snapshot_keeps : (greatest unit : ℕ) (start : Summary) (entries : List Entry) → unit ≤ 86400 → Lawful greatest unit start entries → IsSummary greatest (snapshot unit start entries)
-snapshot_keeps greatest unit start entries u h = record {
-  window = keeps_rule greatest unit start entries _ _ h (snapshot_stands unit start entries);
-  clock = clock_keeps greatest unit start entries u h;
+pub snapshot_keeps : (unit : ℕ) (start : Summary) (entries : List Entry) → unit ≤ 86400 → Lawful unit start entries → IsSummary (snapshot unit start entries)
+snapshot_keeps unit start entries u h = record {
+  limited = limit_kept unit start entries h;
+  window = keeps_rule unit start entries _ _ _ h (snapshot_stands unit start entries);
+  clock = clock_keeps unit start entries u h;
 }
 
 -- a window stands for the histories whose snapshot has its parts, and for no other
-pub stands_is : (unit last bits : ℕ) (start : Summary) (entries : List Entry) → (StandsFor last bits start entries ↔ ((last ≡ (snapshot unit start entries).last) × (bits ≡ (snapshot unit start entries).bits)))
-stands_is unit last bits start entries = (
-  λ w. (w.top_is, window_is start entries last bits w),
-  λ h. rw (h.0, h.1) (snapshot_stands unit start entries),
+pub stands_is : (unit limit last bits : ℕ) (start : Summary) (entries : List Entry) → (StandsFor limit last bits start entries ↔ ((limit ≡ (snapshot unit start entries).limit) × (last ≡ (snapshot unit start entries).last) × (bits ≡ (snapshot unit start entries).bits)))
+stands_is unit limit last bits start entries = (
+  λ w. (w.limit_is, w.top_is, window_is start entries limit last bits w),
+  λ h. rw (h.0, h.1, h.2) (snapshot_stands unit start entries),
 )
 
-abbrev view : ℕ → ℕ → WindowView
-view last bits = record { last = last; bits = bits }
+abbrev view : ℕ → ℕ → ℕ → WindowView
+view limit last bits = record { limit = limit; last = last; bits = bits }
 
-pub window_view_is : (start : Summary) (entries : List Entry) (last bits : ℕ) → StandsFor last bits start entries → view last bits ≡ window_of start entries
-window_view_is start entries last bits w = ap (λ x. view x bits) w.top_is ∙ ap (view (top start entries)) (window_is start entries last bits w)
+pub window_view_is : (start : Summary) (entries : List Entry) (limit last bits : ℕ) → StandsFor limit last bits start entries → view limit last bits ≡ window_of start entries
+window_view_is start entries limit last bits w = ap (λ x. view x last bits) w.limit_is ∙ ap (λ x. view (limit_of start entries) x bits) w.top_is ∙ ap (view (limit_of start entries) (top start entries)) (window_is start entries limit last bits w)

@@ -17,14 +17,14 @@ unfolding all_below
 all_from f zero h = refl
 all_from f (suc n) h = and_from (f n) (all_below f n) (h n (omega arith)) (all_from f n (λ k l. h k (omega arith)))
 
-pub window_test : (greatest last bits : ℕ) → ((is_window greatest last bits ≡ true) ↔ IsWindow greatest last bits)
-window_test greatest last bits = (
+pub window_test : (limit last bits : ℕ) → ((is_window limit last bits ≡ true) ↔ IsWindow limit last bits)
+window_test limit last bits = (
   λ e.
       let a = and_parts _ _ e in
       let b = and_parts _ _ a.0 in
       let c = and_parts _ _ b.0 in
       let d = and_parts _ _ c.0 in
-      let small : nat_le last greatest ≡ true = d.0 in
+      let small : nat_le last limit ≡ true = d.0 in
       let sixteen : nat_lt bits (2 ^ 16) ≡ true = d.1 in
       let first : (bit_at bits 0 == bit (nat_lt 0 last)) ≡ true = c.1 in
       record {
@@ -40,7 +40,7 @@ window_test greatest last bits = (
             grind (arith, nat_tests);
       },
   λ w.
-      let small : nat_le last greatest ≡ true = (let s = w.in_range in grind (arith, nat_tests)) in
+      let small : nat_le last limit ≡ true = (let s = w.in_range in grind (arith, nat_tests)) in
       let sixteen : nat_lt bits (2 ^ 16) ≡ true = (let s = w.fits in grind (arith, nat_tests)) in
       let first : (bit_at bits 0 == bit (nat_lt 0 last)) ≡ true = (let s = w.last_spent in grind (arith, nat_tests)) in
       and_from _ _ (and_from _ _ (and_from _ _ (and_from _ _ small sixteen) first)
@@ -51,7 +51,7 @@ window_test greatest last bits = (
 )
 
 -- whatever decides the rule is the test
-pub test_is : (greatest last bits : ℕ) (b : Bool) → (IsTrue b ↔ IsWindow greatest last bits) → b ≡ is_window greatest last bits
-test_is greatest last bits true h = sym ((window_test greatest last bits).1 (h.0 refl))
-test_is greatest last bits false h =
-    ⊎_elim (λ (e : is_window greatest last bits ≡ true). (let t : IsTrue false = h.1 ((window_test greatest last bits).0 e) in cc)) (λ (e : is_window greatest last bits ≡ false). sym e) (cases_Bool (is_window greatest last bits))
+pub test_is : (limit last bits : ℕ) (b : Bool) → (IsTrue b ↔ IsWindow limit last bits) → b ≡ is_window limit last bits
+test_is limit last bits true h = sym ((window_test limit last bits).1 (h.0 refl))
+test_is limit last bits false h =
+    ⊎_elim (λ (e : is_window limit last bits ≡ true). (let t : IsTrue false = h.1 ((window_test limit last bits).0 e) in cc)) (λ (e : is_window limit last bits ≡ false). sym e) (cases_Bool (is_window limit last bits))

@@ -1,7 +1,7 @@
 -- The clock of a device: time left, whether it is free, failures and block, as a fold over its history.
-use Rattle.std.specs.Prelude.{◌≡◌, ℕ, ◌+◌, ◌-◌, ◌*◌, ◌/◌, ◌^◌, ◌≤◌, ◌⊎◌, min, Bool, true, false, ◌&&◌, ◌==◌, nat_le, List, [], ◌∷◌, if◌then◌else◌}
+use Rattle.std.specs.Prelude.{◌≡◌, ℕ, ◌+◌, ◌-◌, ◌*◌, ◌/◌, ◌%◌, ◌^◌, ◌≤◌, ◌⊎◌, min, Bool, true, false, ◌&&◌, ◌==◌, nat_le, nat_lt, List, [], ◌∷◌, if◌then◌else◌}
 use Rattle.paygo_spec.specs.declared.Entry.{Entry}
-use Rattle.paygo_spec.specs.declared.Entry.TheVariants.{Accept, Bad, Elapsed}
+use Rattle.paygo_spec.specs.declared.Entry.TheVariants.{Accept, Bad, Elapsed, Raised}
 use Rattle.paygo_spec.specs.History.{Summary, is_odd}
 
 -- Seconds left, whether time doesn't count any more, failures in a row, and seconds for which entries are blocked.
@@ -22,6 +22,10 @@ clock_at_start start = clock_with start.left start.free start.fails start.block
 -- The greatest time left, in seconds.
 abbrev pub most_left : ℕ
 most_left = 10 ^ 12
+
+-- Whether a day has a whole number of seconds for so many units.
+abbrev pub divides_day : ℕ → Bool
+divides_day n = nat_lt 0 n && (nat_lt n 256 && (86400 % n == 0))
 
 -- The seconds of one unit of time.
 abbrev pub unit_of : ℕ → ℕ
@@ -52,6 +56,7 @@ abbrev pub clock_after : ℕ → Entry → ClockView → ClockView
 clock_after unit (Accept n v) clock = if is_odd n then set_by unit v clock else added_by unit v clock
 clock_after unit Bad clock = blocked clock
 clock_after unit (Elapsed s) clock = record clock { left = clock.left - s; block = clock.block - s }
+clock_after unit Raised clock = clock
 
 -- The clock after a whole history.
 abbrev pub clock_of : ℕ → Summary → List Entry → ClockView

@@ -1,15 +1,25 @@
 -- The history of a device: where it starts, and the entries since then, the newest first. So a history J with one
 -- entry e more is `e ∷ J`.
---
--- Where a definition takes a number `greatest`, that is the greatest count that the device ever takes.
 use Rattle.std.specs.Prelude.{◌≡◌, ℕ, ◌+◌, ◌-◌, ◌%◌, ◌<◌, ◌≤◌, min, max, Bool, true, false, not, ◌&&◌, ◌||◌, ◌==◌, nat_lt, nat_le, ◌⊎◌, List, [], ◌∷◌, if◌then◌else◌}
 use Rattle.std.specs.Int.{bit_at}
 use Rattle.paygo_spec.specs.declared.Entry.{Entry}
-use Rattle.paygo_spec.specs.declared.Entry.TheVariants.{Accept}
+use Rattle.paygo_spec.specs.declared.Entry.TheVariants.{Accept, Raised}
 
--- Where a history starts: the last count, which of the sixteen counts up to it are used, time left, whether the
--- device is free, the failures, and the block.
+-- The greatest count that a device ever takes, until it is raised, and from then on.
+abbrev pub first_limit : ℕ
+first_limit = 4095
+
+abbrev pub raised_limit : ℕ
+raised_limit = 16383
+
+-- A number is one of the two.
+abbrev pub IsLimit : ℕ → Type 0
+IsLimit limit = (limit ≡ first_limit) ⊎ (limit ≡ raised_limit)
+
+-- Where a history starts: the greatest count that the device ever takes, the last count, which of the sixteen counts up
+-- to it are used, time left, whether the device is free, the failures, and the block.
 pub record Summary : Type 0 where
+  pub limit : ℕ
   pub last : ℕ
   pub bits : ℕ
   pub left : ℕ
@@ -19,7 +29,7 @@ pub record Summary : Type 0 where
 
 -- A new device.
 abbrev pub fresh : Summary
-fresh = record { last = 0; bits = 0; left = 0; free = false; fails = 0; block = 0 }
+fresh = record { limit = first_limit; last = 0; bits = 0; left = 0; free = false; fails = 0; block = 0 }
 
 -- Odd counts are those of set tokens, even counts those of add tokens.
 abbrev pub is_odd : ℕ → Bool
@@ -30,6 +40,12 @@ abbrev pub top : Summary → List Entry → ℕ
 top start [] = start.last
 top start (Accept n v ∷ entries) = max n (top start entries)
 top start (_ ∷ entries) = top start entries
+
+-- The greatest count that the device ever takes: it was raised, or it is that of its start.
+abbrev pub limit_of : Summary → List Entry → ℕ
+limit_of start [] = start.limit
+limit_of start (Raised ∷ entries) = raised_limit
+limit_of start (_ ∷ entries) = limit_of start entries
 
 -- How often a count was accepted.
 abbrev pub accepts : ℕ → List Entry → ℕ
@@ -57,9 +73,10 @@ IsSpent start entries count =
     (((n : ℕ) × (count < n) × (is_odd n ≡ true) × (1 ≤ accepts n entries)) ⊎ (spent_at_start start count ≡ true))
 
 -- The greatest count that a device takes next with a value: 64 above the greatest accepted one, and for a sync token,
--- of value 999, 100 above it. So a customer may lose a number of tokens, and a guess has few counts to meet.
-abbrev pub reach : ℕ → Summary → List Entry → ℕ → ℕ
-reach greatest start entries value = min greatest (top start entries + (if value == 999 then 100 else 64))
+-- of value 999, 100 above it, but never above its limit. So a customer may lose a number of tokens, and a guess has few
+-- counts to meet.
+abbrev pub reach : Summary → List Entry → ℕ → ℕ
+reach start entries value = min (limit_of start entries) (top start entries + (if value == 999 then 100 else 64))
 
 -- The values of a set token: 0 to 995 units of time, 998 for a device that is paid off, and 999 for a sync token.
 abbrev pub IsSetValue : ℕ → Type 0
@@ -68,16 +85,16 @@ IsSetValue value = (value ≤ 995) ⊎ ((value ≡ 998) ⊎ (value ≡ 999))
 -- A device with this history takes the token of this count and value. A set token is taken above every accepted
 -- count. An add token, of 0 to 995 units, is taken in any order, unless it is spent, or sixteen counts or more below
 -- the greatest accepted one.
-abbrev pub Valid : ℕ → Summary → List Entry → ℕ → ℕ → Type 0
-Valid greatest start entries count value =
-    (1 ≤ count) × (count ≤ reach greatest start entries value) ×
+abbrev pub Valid : Summary → List Entry → ℕ → ℕ → Type 0
+Valid start entries count value =
+    (1 ≤ count) × (count ≤ reach start entries value) ×
     (((is_odd count ≡ true) × (top start entries < count) × IsSetValue value) ⊎
     ((is_odd count ≡ false) × (value ≤ 995) × (top start entries < count + 16) × (spent start entries count ≡ false)))
 
 -- The same as a test, for a search.
-abbrev pub is_valid : ℕ → Summary → List Entry → ℕ → ℕ → Bool
-is_valid greatest start entries count value =
-    nat_le 1 count && nat_le count (reach greatest start entries value) &&
+abbrev pub is_valid : Summary → List Entry → ℕ → ℕ → Bool
+is_valid start entries count value =
+    nat_le 1 count && nat_le count (reach start entries value) &&
     (if is_odd count
     then nat_lt (top start entries) count && (nat_le value 995 || (value == 998 || value == 999))
     else nat_le value 995 && (nat_lt (top start entries) (count + 16) && not (spent start entries count)))

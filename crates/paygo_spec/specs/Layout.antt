@@ -5,21 +5,25 @@ use Rattle.std.specs.Prelude.{◌≡◌, ℕ, ◌+◌, ◌-◌, ◌*◌, ◌/◌
 use Rattle.std.specs.Int.{w32, from_be_bytes}
 use Rattle.paygo_spec.specs.declared.Config.{Config}
 use Rattle.paygo_spec.specs.Digits.{digit_count}
-use Rattle.paygo_spec.specs.History.{Summary}
+use Rattle.paygo_spec.specs.History.{Summary, raised_limit}
 
 -- Four bytes of the key, the first the most significant.
 abbrev pub key_number : List ℕ → ℕ → ℕ
 key_number key i = from_be_bytes w32 (take 4 (drop (4 * i) key))
 
--- The number at each place of a head: the bank's number, the key, the starting code, the format (1) with the form and
--- the divider, and the summary with which the bank begins: last count and used bits, time left in two halves, free and
+-- The format of a bank: 1, or 2 where the device was raised before the bank began.
+abbrev pub format_of : ℕ → ℕ
+format_of limit = if limit == raised_limit then 2 else 1
+
+-- The number at each place of a head: the bank's number, the key, the starting code, the format with the form and the
+-- divider, and the summary with which the bank begins: its limit by the format, last count and used bits, time left in two halves, free and
 -- failures, and the block.
 abbrev pub head_number : ℕ → Config → Summary → ℕ → ℕ
 head_number number config start place =
     if place == 0 then number
     else if nat_le place 4 then key_number config.key (place - 1)
     else if place == 5 then config.start
-    else if place == 6 then 2 ^ 24 + digit_count config.form * 2 ^ 8 + config.divider
+    else if place == 6 then format_of start.limit * 2 ^ 24 + digit_count config.form * 2 ^ 8 + config.divider
     else if place == 7 then start.last * 2 ^ 16 + start.bits
     else if place == 8 then start.left / 2 ^ 32
     else if place == 9 then start.left % 2 ^ 32

@@ -17,9 +17,8 @@ pub mod Pad
 pub mod Typed
 pub mod Layout
 pub mod Calls
-pub mod Lines
 pub mod Words
 pub mod Recovery
 pub mod Machine
+pub mod Searched
 pub mod Text
-pub mod Ran

@@ -1,55 +1,24 @@
--- The device as a machine: what may be answered to each step, and what stands then. Its free choices are that the flash
+-- The device as a machine: what may be replied to each event, and what stands then. Its free choices are that the flash
 -- may fail in an event that uses it, which the flash's count of faults shows, and whether an event that was cut off so
 -- counts, and at which position the next entry goes.
-use Rattle.std.specs.Prelude.{◌≡◌, ℕ, ◌+◌, ◌-◌, ◌^◌, ◌<◌, ◌≤◌, ◌⊎◌, Bool, true, false, ◌==◌, ◌&&◌, nat_lt, nat_le, min, List, [], ◌∷◌, ◌++◌, length, take, drop, codes, Option, Some, None, unwrap_or, map, if◌then◌else◌}
-use Rattle.std.specs.Option.{option_map}
-use Rattle.std.specs.Fmt.{decimal}
-use Rattle.std.specs.Str.{bytes_eq}
-use Rattle.paygo_spec.specs.declared.TheConstants.{LAST}
+use Rattle.std.specs.Prelude.{◌≡◌, ◌≢◌, ℕ, ◌^◌, ◌<◌, ◌≤◌, ◌⊎◌, Bool, true, false, ◌==◌, ◌&&◌, nat_le, min, List, [], ◌∷◌, Option, Some, None, if◌then◌else◌}
 use Rattle.paygo_spec.specs.declared.Config.{Config}
 use Rattle.paygo_spec.specs.declared.Entry.{Entry}
-use Rattle.paygo_spec.specs.declared.Entry.TheVariants.{Accept, Bad, Elapsed}
+use Rattle.paygo_spec.specs.declared.Entry.TheVariants.{Accept, Bad, Elapsed, Raised}
 use Rattle.paygo_spec.specs.declared.Event.{Event}
-use Rattle.paygo_spec.specs.declared.Event.TheVariants.{Power, Make, Key, Tick, Show}
+use Rattle.paygo_spec.specs.declared.Event.TheVariants.{Power, Make, Key, Tick, Show, Raise}
 use Rattle.paygo_spec.specs.declared.Reply.{Reply}
 use Rattle.paygo_spec.specs.declared.Reply.TheVariants as reply_is
 use Rattle.paygo_spec.specs.Faults.{Rose}
-use Rattle.paygo_spec.specs.History.{Summary, fresh, top, is_odd}
-use Rattle.paygo_spec.specs.Clock.{ClockView, clock_of, unit_of}
+use Rattle.paygo_spec.specs.Flash.{FlashView}
+use Rattle.paygo_spec.specs.History.{Summary, fresh, raised_limit, limit_of, top, is_odd}
+use Rattle.paygo_spec.specs.Clock.{ClockView, clock_of, divides_day, unit_of}
 use Rattle.paygo_spec.specs.Lawful.{Lawful}
 use Rattle.paygo_spec.specs.Snapshot.{snapshot}
 use Rattle.paygo_spec.specs.Pad.{Keys, IsKey, no_keys, after_key, after_seconds, held_of}
 use Rattle.paygo_spec.specs.Typed.{Typed, WrongLength, WrongDigit, Blocked, Overtaken, Makes, typed}
-use Rattle.paygo_spec.specs.Layout.{Position, first_position, room, further, Leaves, calls_of_entry}
+use Rattle.paygo_spec.specs.Layout.{Position, first_position, last_bank, room, further, turned, Leaves, calls_of_entry}
 use Rattle.paygo_spec.specs.Recovery.{Recovered, Unmade, Damaged, Made, recover}
-use Rattle.paygo_spec.specs.Words.{divides_day, events_in}
-
--- One step of a run: a text is said, or an event happens to the device.
-pub data Step : Type 0 where
-  Say : (text : List ℕ) → Step
-  Act : (event : Event) → Step
-
--- What is answered to a step.
-pub data Answer : Type 0 where
-  Said : (text : List ℕ) → Answer
-  Told : (reply : Reply) → Answer
-
--- The line without one byte 13 at its end.
-abbrev pub trimmed : List ℕ → List ℕ
-trimmed line = if bytes_eq (drop (length line - 1) line) (13 ∷ []) then take (length line - 1) line else line
-
--- The steps of a line of a device: the events that it asks for, or a refusal where it has no form of such a line.
-abbrev pub steps_of_device_line : List ℕ → List Step
-steps_of_device_line line = unwrap_or (option_map (λ events. map Act events) (events_in line)) (Say (codes "unread") ∷ [])
-
--- The steps of a line's text. A line that begins with `{` is one of a ledger, which isn't here.
-abbrev pub steps_of_text : List ℕ → List Step
-steps_of_text [] = []
-steps_of_text (c ∷ cs) = if c == 123 then Say (codes "no ledger here") ∷ [] else steps_of_device_line (c ∷ cs)
-
--- The steps of a line: none for an empty one, and one answer for one above 4,096 bytes.
-abbrev pub steps_of_line : List ℕ → List Step
-steps_of_line line = if nat_lt 4096 (length line) then Say (codes "long " ++ decimal (length line)) ∷ [] else steps_of_text (trimmed line)
 
 -- The history of a device that was made: its configuration, where the history starts, the entries since then, the newest
 -- first, and the position of the next entry on the flash.
@@ -87,7 +56,7 @@ StandsAs (Damaged word) (Broken place) = word ≡ place
 StandsAs (Made journal) (Journal history) =
     (journal.config ≡ history.config) × (journal.at ≡ history.at)
     × (journal.summary ≡ snapshot (unit_for history) history.start history.entries)
-    × Lawful LAST (unit_for history) history.start history.entries
+    × Lawful (unit_for history) history.start history.entries
 StandsAs _ _ = ⊥
 
 -- The words are told, and stand for this.
@@ -107,6 +76,7 @@ IsEvent (Make config) = IsConfig config
 IsEvent (Key key) = IsKey key
 IsEvent (Tick seconds) = seconds ≤ 999999999
 IsEvent Show = Unit {0}
+IsEvent Raise = Unit {0}
 
 -- Whether the device is on, what its flash stands for, the keys that its pad holds, and the flash's count of faults.
 pub record State : Type 0 where
@@ -114,6 +84,15 @@ pub record State : Type 0 where
   pub stored : Stored
   pub keys : Keys
   pub faults : ℕ
+
+-- Before its first event a device is off, and nothing was typed.
+abbrev pub starting : Stored → ℕ → State
+starting stored faults = record { on = false; stored = stored; keys = no_keys; faults = faults }
+
+-- The flash stands for what the machine says, and its count of faults is the machine's.
+pub record Stand (flash : FlashView) (state : State) : Type 0 where
+  pub words : Stands flash.words state.stored
+  pub faults : state.faults ≡ flash.faults
 
 -- What a device shows after these entries.
 abbrev pub clock_at : History → List Entry → ClockView
@@ -135,6 +114,7 @@ abbrev pub reply_to_entry : Entry → ClockView → Reply
 reply_to_entry (Accept count value) clock = if is_odd count then reply_to_set count value clock else reply_is.Added count value clock.left clock.free
 reply_to_entry Bad clock = reply_is.Invalid clock.block
 reply_to_entry (Elapsed seconds) clock = reply_is.Ticked clock.left clock.free clock.block
+reply_to_entry Raised clock = reply_is.Raised
 
 -- The reply when the power comes.
 abbrev pub reply_to_power : Stored → Reply
@@ -156,6 +136,8 @@ pub data Effect : Type 0 where
   Answers : (reply : Option Reply) (entries : List Entry) → Effect
   -- it adds this entry to the history, which takes a word of the flash
   Adds : (entry : Entry) → Effect
+  -- it raises the greatest count, which takes the other bank of the flash
+  Raises : Effect
 
 -- What an entry at the keypad comes to.
 abbrev pub effect_of_typed : History → Typed → Effect
@@ -168,7 +150,7 @@ effect_of_typed history (Makes entry clock) = Adds entry
 -- What becomes of these digits on a device with this history.
 abbrev pub typed_on : (List ℕ → ℕ → ℕ) → History → List ℕ → Typed
 typed_on next history digits =
-    typed (next history.config.key) history.config.start LAST (unit_for history) history.config.form history.start history.entries digits
+    typed (next history.config.key) history.config.start (unit_for history) history.config.form history.start history.entries digits
 
 -- What seconds come to: where the clock shows the same after them, they cost no word of the flash.
 abbrev pub effect_of_seconds : History → ℕ → Effect
@@ -178,6 +160,11 @@ effect_of_seconds history seconds =
     then Answers (Some (reply_to_entry (Elapsed seconds) clock)) (Elapsed seconds ∷ history.entries)
     else Adds (Elapsed seconds)
 
+-- What it comes to that a device is raised: once, and from then on nothing.
+abbrev pub effect_of_raise : History → Effect
+effect_of_raise history =
+    if limit_of history.start history.entries == raised_limit then Answers (Some reply_is.Raised) history.entries else Raises
+
 -- What an event but Power comes to on a device that was made. The key `#` hands the entry in.
 abbrev pub effect_of : (List ℕ → ℕ → ℕ) → History → Keys → Event → Effect
 effect_of next history keys (Make config) = Answers (Some (reply_is.Made history.at.number)) history.entries
@@ -185,6 +172,7 @@ effect_of next history keys (Key key) =
     if key == 35 then effect_of_typed history (typed_on next history keys.pressed) else Answers None history.entries
 effect_of next history keys (Tick seconds) = effect_of_seconds history seconds
 effect_of next history keys Show = Answers (Some (shown history keys)) history.entries
+effect_of next history keys Raise = effect_of_raise history
 effect_of next history keys _ = Answers None history.entries
 
 -- An entry is added: there is no room for it, and nothing changes; or the flash failed, and the entry counts or not; or
@@ -200,10 +188,22 @@ MayAdd history entry reply new =
     × (reply ≡ Some (reply_to_entry entry (clock_at history (entry ∷ history.entries))))
     × (new ≡ Journal (gone_on history (entry ∷ history.entries) (further history.at)))
 
+-- A device is raised: there is no bank for it, and nothing changes; or the flash failed, and the history is as before or
+-- raised; or it is answered, and the history is raised, in the next bank.
+abbrev pub MayRaise : History → Option Reply → Stored → Type 0
+MayRaise history (Some reply_is.Worn) new = (history.at.number ≡ last_bank) × (new ≡ Journal history)
+MayRaise history (Some reply_is.Down) new =
+    (history.at.number ≢ last_bank)
+    × ((new ≡ Journal history) ⊎ (new ≡ Journal (gone_on history (Raised ∷ history.entries) (turned history.at))))
+MayRaise history reply new =
+    (history.at.number ≢ last_bank) × (reply ≡ Some reply_is.Raised)
+    × (new ≡ Journal (gone_on history (Raised ∷ history.entries) (turned history.at)))
+
 -- The reply to an event with this effect, and what the flash stands for then.
 abbrev pub Meets : History → Effect → Option Reply → Stored → Type 0
 Meets history (Answers answer entries) reply new = (reply ≡ answer) × (new ≡ Journal (gone_on history entries history.at))
 Meets history (Adds entry) reply new = MayAdd history entry reply new
+Meets history Raises reply new = MayRaise history reply new
 
 -- A device is made: it is up, or the flash failed, and stands for the new device or for what it stood for.
 abbrev pub MayMake : Config → Option Reply → Stored → Type 0
@@ -268,23 +268,11 @@ abbrev pub Acts : (List ℕ → ℕ → ℕ) → Event → Option Reply → Stat
 Acts next Power reply old new = (new.stored ≡ old.stored) × Powers reply old new
 Acts next event reply old new = ActsIf old.on next event reply old new
 
--- The machine may answer this to the step, and go on to new.
-abbrev pub Takes : (List ℕ → ℕ → ℕ) → Step → Option Answer → State → State → Type 0
-Takes next (Say text) (Some (Said said)) old new = (said ≡ text) × (new ≡ old)
-Takes next (Act event) (Some (Told reply)) old new = Acts next event (Some reply) old new
-Takes next (Act event) None old new = Acts next event None old new
-Takes next _ _ old new = ⊥
-
--- These steps may have these answers, one after another.
-abbrev pub Run : (List ℕ → ℕ → ℕ) → State → List Step → List (Option Answer) → State → Type 0
-Run next old [] [] new = new ≡ old
-Run next old (step ∷ steps) (answer ∷ answers) new = (mid : State) × Takes next step answer old mid × Run next mid steps answers new
-Run next old _ _ new = ⊥
-
 -- How many calls of the flash an event with this effect takes.
 abbrev pub calls_of_effect : Position → Effect → ℕ
 calls_of_effect at (Answers reply entries) = 0
 calls_of_effect at (Adds entry) = calls_of_entry at
+calls_of_effect at Raises = if at.number == last_bank then 0 else 13
 
 -- How many calls it takes until the power is up and the flash is read. On a damaged flash that isn't said.
 abbrev pub calls_of_power : Stored → Option ℕ

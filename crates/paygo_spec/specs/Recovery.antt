@@ -2,18 +2,17 @@
 -- its first finding is the answer. Whatever the words are, it has one.
 use Rattle.std.specs.Prelude.{ℕ, zero, suc, ◌+◌, ◌*◌, ◌/◌, ◌%◌, ◌^◌, Bool, true, not, ◌&&◌, ◌||◌, ◌==◌, nat_lt, nat_le, List, ◌++◌, slice_index, Option, Some, None, is_some, Result, Ok, Err, ok_or, if◌then◌else◌}
 use Rattle.std.specs.Int.{w32, to_be_bytes}
-use Rattle.paygo_spec.specs.declared.TheConstants.{LAST}
 use Rattle.paygo_spec.specs.declared.Config.{Config}
 use Rattle.paygo_spec.specs.declared.Form.TheVariants.{Nine, Fifteen}
 use Rattle.paygo_spec.specs.Flash.{erased_word}
 use Rattle.paygo_spec.specs.Rail.{is_railed, is_paired, number_in}
 use Rattle.paygo_spec.specs.Digits.{form_of}
 use Rattle.paygo_spec.specs.Least.{least}
-use Rattle.paygo_spec.specs.History.{Summary}
+use Rattle.paygo_spec.specs.History.{Summary, first_limit, raised_limit}
 use Rattle.paygo_spec.specs.Window.{is_window}
 use Rattle.paygo_spec.specs.Clock.{most_left, longest_block, unit_of}
 use Rattle.paygo_spec.specs.EntryNumber.{next}
-use Rattle.paygo_spec.specs.Words.{divides_day}
+use Rattle.paygo_spec.specs.Clock.{divides_day}
 use Rattle.paygo_spec.specs.Layout.{Position, last_bank}
 
 -- What is known of a device by its flash: the bank in use, the position of the next entry, the configuration, and the
@@ -55,9 +54,9 @@ newest_bank first second =
     else if is_railed second then Ok (Some 1)
     else Ok None
 
--- The number at place 6 is format 1, a form, and a divider of a day's seconds.
+-- The number at place 6 is format 1 or 2, a form, and a divider of a day's seconds.
 abbrev pub is_format : ℕ → Bool
-is_format x = (x / 2 ^ 16 == 2 ^ 8) && is_some (form_of (x / 2 ^ 8 % 2 ^ 8)) && divides_day (x % 2 ^ 8)
+is_format x = (x / 2 ^ 16 == 2 ^ 8 || x / 2 ^ 16 == 2 * 2 ^ 8) && is_some (form_of (x / 2 ^ 8 % 2 ^ 8)) && divides_day (x % 2 ^ 8)
 
 -- The number at place 10 has no bit above bit 8, at most ten failures, and, where bit 8 says that the device is free, no
 -- time left at the places before it.
@@ -68,12 +67,16 @@ is_state left x = nat_lt x (2 ^ 9) && nat_le (x % 2 ^ 8) 10 && (nat_lt x (2 ^ 8)
 abbrev pub left_in : (ℕ → ℕ) → ℕ
 left_in numbers = numbers 8 * 2 ^ 32 + numbers 9
 
+-- The greatest count that it says by its format.
+abbrev pub limit_in : ℕ → ℕ
+limit_in x = if x / 2 ^ 24 == 2 then raised_limit else first_limit
+
 -- The number at a place of the head keeps the rule of that place. A rule on several places is tested at the last one.
 abbrev pub keeps_rule : (ℕ → ℕ) → ℕ → Bool
 keeps_rule numbers place =
     if place == 5 then nat_lt (numbers 5) (10 ^ 9)
     else if place == 6 then is_format (numbers 6)
-    else if place == 7 then is_window LAST (numbers 7 / 2 ^ 16) (numbers 7 % 2 ^ 16)
+    else if place == 7 then is_window (limit_in (numbers 6)) (numbers 7 / 2 ^ 16) (numbers 7 % 2 ^ 16)
     else if place == 9 then nat_le (left_in numbers) most_left
     else if place == 10 then is_state (left_in numbers) (numbers 10)
     else if place == 11 then nat_le (numbers 11) (longest_block (numbers 10 % 2 ^ 8))
@@ -93,6 +96,7 @@ config_in_head numbers =
 abbrev pub summary_in_head : (ℕ → ℕ) → Summary
 summary_in_head numbers =
     record {
+      limit = limit_in (numbers 6);
       last = numbers 7 / 2 ^ 16;
       bits = numbers 7 % 2 ^ 16;
       left = left_in numbers;
@@ -110,7 +114,7 @@ is_damaged words bank place =
 -- one that is no entry, or none that may follow, is damage.
 abbrev pub after_word : ℕ → ℕ → ℕ → Result Summary ℕ → Result Summary ℕ
 after_word unit at word (Err damaged) = Err damaged
-after_word unit at word (Ok summary) = if is_railed word then ok_or (next LAST unit summary (number_in word)) at else Ok summary
+after_word unit at word (Ok summary) = if is_railed word then ok_or (next unit summary (number_in word)) at else Ok summary
 
 -- The summary after the first n words of a bank that are entries, or the first of them that is damaged.
 unfoldable pub summary_after : List ℕ → ℕ → ℕ → Summary → ℕ → Result Summary ℕ

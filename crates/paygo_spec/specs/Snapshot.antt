@@ -1,7 +1,7 @@
 -- The snapshot of a history: the summary by which a device, or a bank of its flash, may forget the entries.
 use Rattle.std.specs.Prelude.{ℕ, zero, suc, ◌+◌, ◌-◌, ◌*◌, ◌^◌, Bool, ◌&&◌, nat_lt, List}
 use Rattle.paygo_spec.specs.declared.Entry.{Entry}
-use Rattle.paygo_spec.specs.History.{Summary, top, spent}
+use Rattle.paygo_spec.specs.History.{Summary, limit_of, top, spent}
 use Rattle.paygo_spec.specs.Clock.{clock_of}
 use Rattle.paygo_spec.specs.Window.{WindowView, bit}
 
@@ -16,13 +16,14 @@ is_used start entries i = nat_lt i (top start entries) && spent start entries (t
 
 -- The window of a history.
 abbrev pub window_of : Summary → List Entry → WindowView
-window_of start entries = record { last = top start entries; bits = bits_of (is_used start entries) 16 }
+window_of start entries = record { limit = limit_of start entries; last = top start entries; bits = bits_of (is_used start entries) 16 }
 
--- The snapshot of a history: the greatest accepted count, which of the sixteen counts up to it are spent, and what the
--- clock shows.
+-- The snapshot of a history: its limit, the greatest accepted count, which of the sixteen counts up to it are spent, and
+-- what the clock shows.
 abbrev pub snapshot : ℕ → Summary → List Entry → Summary
 snapshot unit start entries =
     record {
+      limit = (window_of start entries).limit;
       last = (window_of start entries).last;
       bits = (window_of start entries).bits;
       left = (clock_of unit start entries).left;

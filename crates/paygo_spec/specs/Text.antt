@@ -1,10 +1,8 @@
--- The texts of the answers, each as it stands on what was written before it.
-use Rattle.std.specs.Prelude.{ℕ, Bool, List, [], ◌∷◌, ◌++◌, codes, if◌then◌else◌, Option, Some, None}
-use Rattle.std.specs.List.{flat_map}
+-- The texts of a device's replies, each as it stands on what was written before it.
+use Rattle.std.specs.Prelude.{ℕ, Bool, List, ◌++◌, codes, if◌then◌else◌}
 use Rattle.std.specs.Fmt.{decimal}
 use Rattle.paygo_spec.specs.declared.Reply.{Reply}
-use Rattle.paygo_spec.specs.declared.Reply.TheVariants.{Set, Added, Free, Synced, Old, Invalid, Blocked, Length, Digits, Worn, Down, Up, Ticked, Unmade, Made, Damaged, Shown}
-use Rattle.paygo_spec.specs.Machine.{Answer, Said, Told}
+use Rattle.paygo_spec.specs.declared.Reply.TheVariants.{Set, Added, Free, Synced, Old, Invalid, Blocked, Length, Digits, Worn, Down, Up, Ticked, Unmade, Made, Damaged, Shown, Raised}
 
 -- A space and a number in decimal digits, without leading zeros.
 abbrev pub with_number : List ℕ → ℕ → List ℕ
@@ -26,6 +24,7 @@ text_of (Blocked block) = with_number (codes "blocked") block
 text_of (Length n) = with_number (codes "length") n
 text_of (Digits place) = with_number (codes "digits") place
 text_of Worn = codes "worn"
+text_of Raised = codes "raised"
 text_of Down = codes "down"
 text_of (Up count left free block) = with_number (with_left (with_number (codes "up") count) left free) block
 text_of (Ticked left free block) = with_number (with_left (codes "ticked") left free) block
@@ -34,13 +33,3 @@ text_of (Made number) = with_number (codes "made") number
 text_of (Damaged place) = with_number (codes "damaged") place
 text_of (Shown count left free fails block held room) =
     with_number (with_number (with_number (with_number (with_left (with_number (codes "shown") count) left free) fails) block) held) room
-
--- The line of an answer, where there is one.
-abbrev pub line_of : Option Answer → List ℕ
-line_of None = []
-line_of (Some (Said text)) = text ++ 10 ∷ []
-line_of (Some (Told reply)) = text_of reply ++ 10 ∷ []
-
--- All that is written for these answers.
-abbrev pub text : List (Option Answer) → List ℕ
-text answers = flat_map line_of answers

@@ -48,6 +48,6 @@ abbrev pub token_in : Form → List ℕ → ℕ
 token_in form digits = unwrap_or (value_of form digits) 0
 
 -- What becomes of these digits on a device with this history.
-abbrev pub typed : (ℕ → ℕ) → ℕ → ℕ → ℕ → Form → Summary → List Entry → List ℕ → Typed
-typed next start greatest unit form origin entries digits =
-    by_length form digits unit (clock_of unit origin entries) (found next start greatest origin entries (token_in form digits))
+abbrev pub typed : (ℕ → ℕ) → ℕ → ℕ → Form → Summary → List Entry → List ℕ → Typed
+typed next start unit form origin entries digits =
+    by_length form digits unit (clock_of unit origin entries) (found next start origin entries (token_in form digits))

@@ -5,8 +5,11 @@
 ghost use Rattle.std.specs.Prelude.{◌≡◌, ◌≢◌, ◌↔◌, IsNone, IfSome};
 ghost use Rattle.paygo_spec.specs.Digits.{digit_count, form_of};
 
-/// The greatest count of a token. The counts of a chain run from 0 to this one.
+/// The greatest count of a token on a device that wasn't raised. The counts of a chain run from 0 to this one.
 pub const LAST: u16 = 4095;
+
+/// The greatest count of a token on a device that was raised.
+pub const GREAT: u16 = 16_383;
 
 /// The greatest time left, in seconds: more than 30,000 years.
 pub const MOST_LEFT: u64 = 1_000_000_000_000;
@@ -18,12 +21,15 @@ pub const DAY: u32 = 86_400;
 /// that changed nothing the flash keeps no entry.
 #[derive(Clone, Copy, Debug, PartialEq, Eq)]
 pub enum Entry {
-    /// A token was accepted: its count, from 1 to 4,095, and its value, from 0 to 999.
+    /// A token was accepted: its count, from 1 to 16,383, and its value, from 0 to 999.
     Accept { count: u16, value: u16 },
     /// A typed token was invalid.
     Bad,
     /// So many seconds passed: at most 999,999,999, and on the flash at least 1.
     Elapsed { seconds: u32 },
+    /// The device was raised: from now on it takes counts up to 16,383, and the least match of a token alone decides. No
+    /// word of the flash says so: it stands in the head of a bank.
+    Raised,
 }
 
 /// The form in which a token is typed.
@@ -87,6 +93,8 @@ pub enum Event {
     Tick(u32),
     /// The device is asked what it shows.
     Show,
+    /// The device is raised, to the greater of the two limits.
+    Raise,
 }
 
 /// What a device answers to an event. Time left and blocks are in seconds.
@@ -136,6 +144,8 @@ pub enum Reply {
     },
     /// The flash has no room for one more entry. The event wasn't taken.
     Worn,
+    /// The device takes counts up to 16,383, from now on or since before.
+    Raised,
     /// The flash failed. The device is off until its power comes back, and the event counts wholly or not at all, which
     /// that shows.
     Down,
@@ -178,26 +188,11 @@ pub enum Reply {
 /// What a device makes of a token that is typed in.
 #[derive(Clone, Copy, Debug, PartialEq, Eq)]
 pub enum Found {
-    /// The device takes it: the least count at which it is valid, from 1 to 4,095, and its value, from 0 to 999.
+    /// The device takes it: the least count at which it is valid, from 1 to 16,383, and its value, from 0 to 999.
     Valid { count: u16, value: u16 },
     /// It is a token of the device's own chain, and gives nothing: it was used or overtaken, or it is that of count 0,
-    /// or its value is none that its count takes. The least count whose token it is, from 0 to 4,095.
+    /// or its value is none that its count takes. The least count whose token it is, from 0 to 16,383.
     Old { count: u16 },
     /// It is the token of no count from 0 to the reach, the greatest count that the device takes next.
     Invalid,
-}
-
-/// How a run of the program ended.
-#[derive(Clone, Copy, Debug, PartialEq, Eq)]
-pub enum Status {
-    /// The input was read to its end, and every line was answered.
-    Ok,
-    /// The words of the command line are of no form that the program knows.
-    Usage,
-    /// The input failed.
-    Read,
-    /// The output failed.
-    Write,
-    /// 2^40 bytes of the input were taken, and it hasn't told its end.
-    Long,
 }

@@ -48,7 +48,8 @@ pub fn token_base(start: u32, value: u16) -> u32
 }
 
 /// The value, from 0 to 999, that the last three digits of this token say to a device with this
-/// starting code. It undoes `token_base`, and every token has one.
+/// starting code. Every token has one. It undoes `token_base`, as a law of history_laws says:
+/// `tokens_say_their_value`.
 pub fn value_of(start: u32, token: u32) -> u16
     ensures value { result ≡ value_in start token }
     ensures below { result < 1000 }

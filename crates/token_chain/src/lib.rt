@@ -14,8 +14,11 @@ pub use codes::{base, fold, put, token_base, value_of};
 pub use mixers::{Mixer, Plain, Stride};
 pub use walks::{Walk, token};
 
-/// The greatest count of a token.
+/// The greatest count of a token of a device that wasn't raised.
 pub const LAST: u16 = 4095;
+
+/// The greatest count of a token of a device that was raised.
+pub const GREAT: u16 = 16_383;
 
 #[cfg(test)]
 mod tests;

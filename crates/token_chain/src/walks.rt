@@ -3,7 +3,7 @@
 ghost use Rattle.std.specs.Prelude.{◌≡◌, ◌+◌, ◌^◌, ◌<◌, ◌≤◌};
 ghost use Rattle.paygo_spec.specs.Chain.{code_at, token_at};
 
-use crate::LAST;
+use crate::GREAT;
 use crate::codes::{put, token_base};
 use crate::mixers::Mixer;
 use std::marker::{Model, PhantomData};
@@ -85,10 +85,10 @@ impl<M: Mixer> Walk<M> {
 
 /// The token of a count and a value, for a device with this key and starting code: what the shop sells,
 /// and what the customer types, as a number below 1,000,000,000. The starting code is below
-/// 1,000,000,000, the count is from 0 to `LAST`, and the value is from 0 to 999.
+/// 1,000,000,000, the count is from 0 to `GREAT`, and the value is from 0 to 999.
 pub fn token<M: Mixer>(key: &[u8; 16], start: u32, count: u16, value: u16) -> u32
     requires start { start < 10 ^ 9 }
-    requires count { count ≤ LAST }
+    requires count { count ≤ GREAT }
     requires value { value < 1000 }
     ensures value { result ≡ token_at (M.next key.now) start value count }
     ensures below { result < 10 ^ 9 }

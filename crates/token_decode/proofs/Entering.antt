@@ -9,8 +9,8 @@ use Rattle.paygo_spec.specs.Snapshot.{snapshot}
 use Rattle.paygo_spec.specs.Typed.{typed, by_length, token_in}
 use Rattle.token_decode.proofs.Answers.{snapshot_answers}
 
-pub snapshot_typed : (next : ℕ → ℕ) (unit start greatest : ℕ) (form : Form) (origin : Summary) (entries : List Entry) (digits : List ℕ)
-    → typed next start greatest unit form (snapshot unit origin entries) [] digits ≡ typed next start greatest unit form origin entries digits
-snapshot_typed next unit start greatest form origin entries digits =
+pub snapshot_typed : (next : ℕ → ℕ) (unit start : ℕ) (form : Form) (origin : Summary) (entries : List Entry) (digits : List ℕ)
+    → typed next start unit form (snapshot unit origin entries) [] digits ≡ typed next start unit form origin entries digits
+snapshot_typed next unit start form origin entries digits =
     ap (λ (answer : Found). by_length form digits unit (clock_of unit origin entries) answer)
-    (snapshot_answers next unit start greatest origin entries (token_in form digits))
+    (snapshot_answers next unit start origin entries (token_in form digits))

@@ -1,4 +1,5 @@
 use super::*;
+use paygo_spec::LAST;
 use std::process::Abort;
 use token_chain::{Plain, Stride};
 
@@ -23,7 +24,7 @@ fn old(count: u16) -> Found {
 /// Compares what a device with this last count and these bits makes of tokens with what is wanted. The counts of a
 /// chain by `Stride<7>` are 7,000 apart.
 fn compare(rt: &impl Abort, (last, bits): (u16, u16), rows: &[(u32, Found)]) {
-    let window = Window::of_parts(last, bits).expect(rt, "a window");
+    let window = Window::of_parts(LAST, last, bits).expect(rt, "a window");
     for &(token, want) in rows {
         assert_eq!(rt;
             find::<Stride<7>>(&ZEROS, START, &window, token),
@@ -135,6 +136,29 @@ fn tokens_at_the_last_counts(rt: HostRuntime) {
     compare(&rt, (4095, 0xFFFF), &at);
 }
 
+/// What a device makes of a token under each of the two limits.
+fn under_limits<M: Mixer>(rt: &impl Abort, last: u16, bits: u16, token: u32) -> (Found, Found) {
+    let mut window = Window::of_parts(LAST, last, bits).expect(rt, "a window");
+    let before = find::<M>(&ZEROS, START, &window, token);
+    window.raise();
+    (before, find::<M>(&ZEROS, START, &window, token))
+}
+
+/// A raised device takes counts above 4,095, and of a token of two counts the least alone decides.
+#[test]
+fn tokens_on_a_raised_device(rt: HostRuntime) {
+    assert_eq!(rt;
+        under_limits::<Stride<7>>(&rt, 4095, 0xFFFF, 152_135_819),
+        (Found::Invalid, valid(4097, 30)),
+        "a count above 4,095"
+    );
+    assert_eq!(rt;
+        under_limits::<Stride<1000>>(&rt, 1000, 0b1, 125_456_794),
+        (valid(1002, 5), old(2)),
+        "a token of two counts"
+    );
+}
+
 /// A chain that stands still: each count has the same tokens, so that the least count must be told.
 #[test]
 fn tokens_of_many_counts(rt: HostRuntime) {
@@ -147,7 +171,7 @@ fn tokens_of_many_counts(rt: HostRuntime) {
         ((4095, 0xFFFF), 123_456_794, old(0)),
     ];
     for ((last, bits), token, want) in table {
-        let window = Window::of_parts(last, bits).expect(&rt, "a window");
+        let window = Window::of_parts(LAST, last, bits).expect(&rt, "a window");
         assert_eq!(rt;
             find::<Stride<0>>(&ZEROS, START, &window, token),
             want,

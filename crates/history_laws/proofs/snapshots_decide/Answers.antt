@@ -6,7 +6,7 @@ pub returns : goal.returns
 returns c = record {
   top = λ unit start entries. refl;
   clock = λ unit start entries. refl;
-  reach = λ greatest unit start entries v. refl;
+  reach = λ unit start entries v. refl;
   spent = λ unit start entries m l h. sym (snapshot_spent unit start entries m l h);
   valid = snapshot_valid;
   may_follow = snapshot_may;

@@ -2,4 +2,4 @@ use Rattle.paygo_spec.proofs.Snapshots.{snapshot_start}
 use Rattle.history_laws.proofs.summaries_are_snapshots.Goals as goal
 
 pub returns : goal.returns
-returns c = record { same = snapshot_start; lawful = λ greatest unit start h. h }
+returns c = record { same = snapshot_start; lawful = λ unit start h. h }

@@ -2,7 +2,7 @@ use Rattle.std.proofs.Common.{◌≡◌, ℕ, ◌*◌, ◌≤◌, List, [], ◌�
 use Rattle.std.proofs.lemmas.Bool.{cond_both, leb-true}
 use Rattle.std.proofs.Math.Nat.{mul-le-mul}
 use Rattle.paygo_spec.specs.declared.Entry.{Entry}
-use Rattle.paygo_spec.specs.declared.Entry.TheVariants.{Accept, Bad, Elapsed}
+use Rattle.paygo_spec.specs.declared.Entry.TheVariants.{Accept, Bad, Elapsed, Raised}
 use Rattle.paygo_spec.specs.History.{Summary, is_odd}
 use Rattle.paygo_spec.specs.Clock.{ClockView, clock_after, clock_of, HasEffect, IsClock, CameUnblocked}
 use Rattle.paid_clock.proofs.rule_is_kept.Goals as goal
@@ -38,6 +38,7 @@ keeps unit start (Elapsed t ∷ entries) u s h =
       unblocked = λ z. (let y : (clock_of unit start entries).block ≡ 0 = k.unblocked z in omega arith);
       bounded = omega arith;
     }
+keeps unit start (Raised ∷ entries) u s h = keeps unit start entries u s h
 
 pub returns : goal.returns
 returns c = keeps

@@ -1,4 +1,7 @@
-use crate::{MemSink, MemSource, Memory, ReadFault, Sink, Source, WriteFault};
+use crate::{
+    MemSink, MemSource, Memory, ReadFault, Sink, Source, WatchedSink, WatchedSource, WriteFault,
+};
+use std::cell::Cell;
 
 #[test]
 fn a_source_gives_its_bytes(rt: HostRuntime) -> Result<(), Memory> {
@@ -68,5 +71,21 @@ fn a_sink_fails_where_planned(rt: HostRuntime) -> Result<(), Memory> {
         }
         assert_eq!(rt; sink.bytes(), b"oldoldold".as_slice());
     }
+    Ok(())
+}
+
+#[test]
+fn a_watched_source_notes_what_was_written(rt: HostRuntime) -> Result<(), Memory> {
+    let written = Cell::new(0);
+    let mut source = WatchedSource::new(MemSource::new(rt.alloc(), b"power\nshow\n")?, &written);
+    let mut sink = WatchedSink::new(MemSink::new(rt.alloc(), 20)?, &written);
+    assert_eq!(rt; source.read(&mut [0; 6]), Ok(6));
+    assert_eq!(rt; sink.write(b"unmade\n"), Ok(7));
+    assert_eq!(rt; source.read(&mut [0; 6]), Ok(5));
+    assert_eq!(rt; sink.write(b"unmade\n"), Ok(7));
+    assert_eq!(rt; sink.write(b"unmade\n"), Ok(6));
+    assert_eq!(rt; source.read(&mut [0; 6]), Ok(0));
+    assert_eq!(rt; source.seen(), [0, 7, 20].as_slice());
+    assert_eq!(rt; sink.bytes(), b"unmade\nunmade\nunmade".as_slice());
     Ok(())
 }

@@ -1,14 +1,21 @@
 // Power cuts: at each call of the flash, an event counts wholly or not at all, and what was answered counts wholly.
-use super::{KEEPS, MADE, MAKE, joined, repeated, said};
+use super::bench::a_month;
+use super::{BENCH, DEVICE, KEEPS, MADE, MAKE, joined, repeated, said_by};
 use paygo_outside::{Cut, MemFlash, Memory};
 use std::alloc::Global;
 use std::process::Abort;
 
-/// What a device over an erased flash answers to these lines where its flash fails after so many calls.
-fn cut_short(alloc: Global, input: &str, after: u32, keep: u64) -> Result<String, Memory> {
+/// What these lines are answered over an erased flash and empty tables where the flash fails after so many calls.
+fn cut_short(
+    alloc: Global,
+    words: &[&str],
+    input: &str,
+    after: u32,
+    keep: u64,
+) -> Result<String, Memory> {
     let mut flash = MemFlash::erased();
     flash.plan(Some(Cut { after, keep }));
-    said(alloc, &mut flash, input)
+    said_by(alloc, &mut flash, words, input)
 }
 
 #[test]
@@ -32,10 +39,23 @@ fn a_token_that_is_cut_off(rt: HostRuntime) -> Result<(), Memory> {
             "down\nup 1 2592000 0\nold\nshown 1 2592000 0 0 0 49999999\n",
         ),
     ] {
-        let text = cut_short(rt.alloc(), &input, 18, keep)?;
+        let text = cut_short(rt.alloc(), &DEVICE, &input, 18, keep)?;
         let want = joined(rt.alloc(), MADE, want)?;
         assert_eq!(rt; text.as_str(), want.as_str());
     }
+    Ok(())
+}
+
+#[test]
+fn a_raise_that_is_cut_off(rt: HostRuntime) -> Result<(), Memory> {
+    let input = joined(rt.alloc(), MAKE, "raise\npower\nshow\n")?;
+    let text = cut_short(rt.alloc(), &DEVICE, &input, 30, u64::MAX)?;
+    let want = joined(
+        rt.alloc(),
+        MADE,
+        "down\nup 0 0 0\nshown 0 0 0 0 0 50000000\n",
+    )?;
+    assert_eq!(rt; text.as_str(), want.as_str());
     Ok(())
 }
 
@@ -67,7 +87,7 @@ fn a_bank_that_is_cut_off(rt: HostRuntime) -> Result<(), Memory> {
     let want = "down\nup 1 2532060 0\nticked 2532000 0\nshown 1 2532000 0 0 0 49998999\n";
     // the erase of the old bank, and the header of the new one
     for (after, keep) in [(1031, 0x5555_5555_5555_5555), (1043, u64::MAX), (1043, 0)] {
-        let text = cut_short(rt.alloc(), &input, after, keep)?;
+        let text = cut_short(rt.alloc(), &DEVICE, &input, after, keep)?;
         assert_eq!(rt; last_lines(&text, 4), want, "{after} {keep}");
     }
     Ok(())
@@ -105,7 +125,13 @@ fn last_summary(text: &str) -> &str {
 
 /// What `show` says after lines of which the line n was cut off, where that counted or didn't: from there on nothing is
 /// answered up to the next `power`.
-fn summary_without(alloc: Global, lines: &str, n: usize, counted: bool) -> Result<String, Memory> {
+fn summary_without(
+    alloc: Global,
+    words: &[&str],
+    lines: &str,
+    n: usize,
+    counted: bool,
+) -> Result<String, Memory> {
     let (before, from) = split_at_line(lines, n);
     let (line, rest) = split_at_line(from, 1);
     let again = match rest.find("power\n") {
@@ -115,33 +141,39 @@ fn summary_without(alloc: Global, lines: &str, n: usize, counted: bool) -> Resul
     let input = joined(alloc, before, if counted { line } else { "" })?;
     let input = joined(alloc, &input, again)?;
     let input = joined(alloc, &input, "power\nshow\n")?;
-    let text = said(alloc, &mut MemFlash::erased(), &input)?;
+    let text = said_by(alloc, &mut MemFlash::erased(), words, &input)?;
     joined(alloc, last_summary(&text), "")
 }
 
-/// Cuts the power at each call of the flash in these lines, of which each has one answer, and looks at what is answered and
-/// what stands after the power came back.
-fn cut_everywhere(rt: &impl Abort, alloc: Global, lines: &str, keep: u64) -> Result<(), Memory> {
+/// Cuts the power at each of the calls of the flash that these lines make, of which each has one answer, and looks at what is
+/// answered and what stands after the power came back. Each cut has its `down`.
+fn cut_everywhere(
+    rt: &impl Abort,
+    alloc: Global,
+    words: &[&str],
+    lines: &str,
+    calls: u32,
+    keep: u64,
+) -> Result<(), Memory> {
     let input = joined(alloc, lines, "power\nshow\n")?;
-    let calm = said(alloc, &mut MemFlash::erased(), &input)?;
+    let calm = said_by(alloc, &mut MemFlash::erased(), words, &input)?;
     let mut cut_line = usize::MAX;
     let mut without = joined(alloc, "", "")?;
     let mut with = joined(alloc, "", "")?;
-    for after in 0..5000u32 {
-        let text = cut_short(alloc, &input, after, keep)?;
+    for after in 0..calls {
+        let text = cut_short(alloc, words, &input, after, keep)?;
         let start = text.find("down\n").unwrap_or(text.len());
+        assert!(rt; start < text.len(), "{after} {keep}");
         let before = text.get(..start).unwrap_or("");
         let n = line_count(before);
-        if n >= line_count(lines) {
-            return Ok(());
-        }
+        assert!(rt; n < line_count(lines), "{after} {keep}");
         assert!(rt; calm.starts_with(before), "{after} {keep}");
         let rest = text.get(start.saturating_add(5)..).unwrap_or("down\n");
         assert!(rt; rest.find("down\n").is_none(), "{after} {keep}");
         if n != cut_line {
             cut_line = n;
-            without = summary_without(alloc, lines, n, false)?;
-            with = summary_without(alloc, lines, n, true)?;
+            without = summary_without(alloc, words, lines, n, false)?;
+            with = summary_without(alloc, words, lines, n, true)?;
         }
         let summary = last_summary(&text);
         assert!(rt;
@@ -159,8 +191,30 @@ fn every_cut_of_a_token(rt: HostRuntime) -> Result<(), Memory> {
         MAKE,
         "keys 123463819#\npower\nkeys 123463819#\n",
     )?;
+    // 3 and 15 calls, the token, and what is read of the flash
     for keep in KEEPS {
-        cut_everywhere(&rt, rt.alloc(), &lines, keep)?;
+        cut_everywhere(&rt, rt.alloc(), &DEVICE, &lines, 18 + 1 + 514, keep)?;
+    }
+    Ok(())
+}
+
+#[test]
+fn every_cut_of_a_raise(rt: HostRuntime) -> Result<(), Memory> {
+    let lines = joined(
+        rt.alloc(),
+        MAKE,
+        "keys 123470794#\nraise\npower\nraise\nkeys 123470794#\ntick 60\n",
+    )?;
+    // the token, the raise, the power, and a minute
+    for keep in KEEPS {
+        cut_everywhere(
+            &rt,
+            rt.alloc(),
+            &DEVICE,
+            &lines,
+            18 + 1 + 13 + 514 + 1,
+            keep,
+        )?;
     }
     Ok(())
 }
@@ -170,8 +224,9 @@ fn every_cut_of_a_lock_out(rt: HostRuntime) -> Result<(), Memory> {
     let lines =
         "keys 000000000#\ntick 120\nkeys 000000000#\ntick 240\nkeys 000000000#\npower\nkeys 123463819#\ntick 480\nkeys 123463819#\n";
     let lines = joined(rt.alloc(), MAKE, lines)?;
+    // five entries, the power, and two entries
     for keep in KEEPS {
-        cut_everywhere(&rt, rt.alloc(), &lines, keep)?;
+        cut_everywhere(&rt, rt.alloc(), &DEVICE, &lines, 18 + 5 + 514 + 2, keep)?;
     }
     Ok(())
 }
@@ -179,8 +234,26 @@ fn every_cut_of_a_lock_out(rt: HostRuntime) -> Result<(), Memory> {
 #[test]
 fn every_cut_of_a_thousand_minutes(rt: HostRuntime) -> Result<(), Memory> {
     let lines = thousand_minutes(rt.alloc())?;
+    // a token and a thousand minutes, of which two begin a bank, the power, and a minute
     for keep in KEEPS {
-        cut_everywhere(&rt, rt.alloc(), &lines, keep)?;
+        cut_everywhere(
+            &rt,
+            rt.alloc(),
+            &DEVICE,
+            &lines,
+            18 + 999 + 2 * 14 + 514 + 1,
+            keep,
+        )?;
+    }
+    Ok(())
+}
+
+#[test]
+fn every_cut_of_a_month_of_payments(rt: HostRuntime) -> Result<(), Memory> {
+    let lines = a_month(rt.alloc())?;
+    // four tokens and 505 hours, of which one begins a bank, the power, and hours in which no time is left
+    for keep in KEEPS {
+        cut_everywhere(&rt, rt.alloc(), &BENCH, &lines, 18 + 508 + 14 + 514, keep)?;
     }
     Ok(())
 }

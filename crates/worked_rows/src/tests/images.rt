@@ -4,12 +4,12 @@ use paygo_outside::{MemFlash, Memory};
 use std::alloc::Global;
 
 /// The word in which a number stands.
-fn rail(x: u32) -> u64 {
+pub(super) fn rail(x: u32) -> u64 {
     (u64::from(x) << 32) | u64::from(!x)
 }
 
 /// The words of a fresh device: a head in bank 0, and nothing else.
-fn fresh_words() -> [u64; 1024] {
+pub(super) fn fresh_words() -> [u64; 1024] {
     let mut words = [u64::MAX; 1024];
     words[0] = rail(1);
     for place in 1..12usize {
@@ -45,6 +45,20 @@ fn damage_is_found_at_its_place(rt: HostRuntime) -> Result<(), Memory> {
         ([(5, rail(1_000_000_000)), (6, rail(0))], "damaged 5\n"),
         ([(6, rail(0x0300_0901)), (7, rail(1))], "damaged 6\n"),
         ([(6, rail(0x0100_0907)), (7, rail(1))], "damaged 6\n"),
+        ([(6, rail(0x0000_0901)), (7, rail(1))], "damaged 6\n"),
+        // a last count above the limit that the format says
+        (
+            [(6, rail(0x0100_0901)), (7, rail(0x1000_0001))],
+            "damaged 7\n",
+        ),
+        (
+            [(6, rail(0x0200_0901)), (7, rail(0x4000_0001))],
+            "damaged 7\n",
+        ),
+        (
+            [(6, rail(0x0200_0901)), (7, rail(0x1000_0001))],
+            "up 4096 0 0\n",
+        ),
         ([(7, rail(1)), (11, rail(60))], "damaged 7\n"),
         ([(8, rail(232)), (9, rail(3_567_587_329))], "damaged 9\n"),
         ([(9, rail(5)), (10, rail(256))], "damaged 10\n"),

@@ -8,7 +8,12 @@ use std::alloc::Global;
 const MAKE_FIFTEEN: &str = "power\nmake 00000000000000000000000000000000 123456789 1 15\n";
 
 /// Lines of a fresh device, and what they are answered.
-const ROWS: [(&str, &str); 26] = [
+const ROWS: [(&str, &str); 27] = [
+    // a device is raised once
+    (
+        "raise\nraise\nshow\n",
+        "raised\nraised\nshown 0 0 0 0 0 49999500\n",
+    ),
     // a token of 30 days sets the credit, and time takes it
     (
         "keys 123463819#\ntick 3600\n",
@@ -102,7 +107,13 @@ const ROWS: [(&str, &str); 26] = [
     ),
     // lines of no form, and lines of a ledger
     (
-        "walk\n{\n{\"do\":\"pay\"}\n show\nshow \nSHOW\n",
+        r#"walk
+{
+{"do":"pay"}
+ show
+show 
+SHOW
+"#,
         "unread\nno ledger here\nno ledger here\nunread\nunread\nunread\n",
     ),
     // the first token overtakes count 0 and itself

@@ -1,8 +1,11 @@
 // Words of the command line, and sources and sinks that fail.
 use super::{CALM, DEVICE, Plan, answered};
 use bench_run::{Lines, LinesFault, Next};
-use paygo_cli::Status;
-use paygo_outside::{MemFlash, MemSource, Memory};
+use ledger_keeper::MemKeeper;
+use paygo_cli::{Status, run};
+use paygo_outside::{MemFlash, MemSink, MemSource, Memory, WatchedSink, WatchedSource};
+use std::cell::Cell;
+use token_chain::Stride;
 
 #[test]
 fn faults_of_the_streams_end_a_run(rt: HostRuntime) -> Result<(), Memory> {
@@ -36,8 +39,14 @@ fn faults_of_the_streams_end_a_run(rt: HostRuntime) -> Result<(), Memory> {
 fn words_of_the_command_line(rt: HostRuntime) -> Result<(), Memory> {
     // a source whose first read fails shows whether it is read
     let fails = Plan { read: 1, ..CALM };
-    let rows: [(&[&str], &str, Plan, Status); 8] = [
+    let rows: [(&[&str], &str, Plan, Status); 14] = [
         (&["serve"], "power\n", fails, Status::Usage),
+        (&["serve", ""], "power\n", fails, Status::Usage),
+        (&["serve", "D", "F"], "power\n", fails, Status::Usage),
+        (&["bench", "D"], "power\n", fails, Status::Usage),
+        (&["bench", "D", ""], "power\n", fails, Status::Usage),
+        (&["serve", "D"], "power\n", fails, Status::Read),
+        (&["bench", "D", "F"], "power\n", fails, Status::Read),
         (&[], "power\n", fails, Status::Usage),
         (&["fleet", "1", "0", "5"], "power\n", fails, Status::Usage),
         (&["device", ""], "power\n", fails, Status::Usage),
@@ -73,6 +82,47 @@ fn lines_within_a_budget(rt: HostRuntime) -> Result<(), Memory> {
         if second.is_ok() {
             assert_eq!(rt; &line[..3], b"pow".as_slice());
             assert_eq!(rt; lines.next(&mut source, &mut line), Ok(Next::End));
+        }
+    }
+    Ok(())
+}
+
+/// How many lines end in the first bytes of an input.
+fn lines_within(input: &[u8], most: usize) -> usize {
+    input
+        .iter()
+        .enumerate()
+        .filter(|(at, c)| *at < most && **c == b'\n')
+        .count()
+}
+
+#[test]
+fn each_line_is_answered_before_the_next_read(rt: HostRuntime) -> Result<(), Memory> {
+    let input = b"power\nshow\nshow\n";
+    // by the byte, by less and more than a line, and all at once
+    for (most, reads) in [(1usize, 17usize), (5, 5), (6, 4), (7, 4), (8192, 2)] {
+        let written = Cell::new(0u64);
+        let mut source = MemSource::new(rt.alloc(), input)?;
+        source.most(most);
+        let mut source = WatchedSource::new(source, &written);
+        let mut sink = WatchedSink::new(MemSink::new(rt.alloc(), 100)?, &written);
+        let mut keeper = MemKeeper::new(rt.alloc());
+        let status = run::<Stride<7>, WatchedSource<'_>, WatchedSink<'_>, MemKeeper, MemFlash>(
+            rt.alloc(),
+            &DEVICE,
+            &mut source,
+            &mut sink,
+            &mut keeper,
+            &mut MemFlash::erased(),
+        );
+        assert_eq!(rt; status, Status::Ok);
+        assert_eq!(rt; sink.bytes(), b"unmade\nunmade\nunmade\n".as_slice());
+        let seen = source.seen();
+        assert_eq!(rt; seen.len(), reads);
+        for (read, bytes) in seen.iter().enumerate() {
+            // three answers of seven bytes, each of a line that had been read whole
+            let lines = lines_within(input, read.saturating_mul(most));
+            assert_eq!(rt; *bytes, (lines as u64).saturating_mul(7), "{most} {read}");
         }
     }
     Ok(())

@@ -1,6 +1,5 @@
 use Rattle.std.proofs.Common.{◌≡◌, ◌≤◌, ℕ, List}
 use Rattle.std.specs.Prelude.{IfSome}
-use Rattle.paygo_spec.specs.declared.TheConstants.{LAST}
 use Rattle.paygo_spec.specs.Lawful.{IsSummary}
 use Rattle.paygo_spec.specs.Calls.{Passed}
 use Rattle.bank_journal.specs.Summary.{summary_of}
@@ -10,7 +9,7 @@ use Rattle.bank_journal.proofs.read_entries.read_entries.Given as goal
 abbrev pub invariant-loop-n : goal.invariant-loop-n
 invariant-loop-n g l = record {
   words : (g.F.Flash.view l.flash).words ≡ (g.F.Flash.view l.fn.flash).words;
-  rule : IsSummary LAST (summary_of l.summary);
+  rule : IsSummary (summary_of l.summary);
   few : l.used ≤ l.n;
   read : IfSome (g.F.Flash.view l.fn.flash).words (λ (words : List ℕ). IsReadTo words l.bank l.unit (summary_of l.fn.start) l.n (summary_of l.summary) l.used);
   calls : Passed l.n (g.F.Flash.view l.fn.flash) (g.F.Flash.view l.flash);

@@ -1,8 +1,8 @@
-use Rattle.std.proofs.Common.{◌≡◌, ◌/◌, Bool, Option, Some, None, if◌then◌else◌, nat_le, true, get_or, slice_index, bit_and, refl, sym, subst, ◌∙◌}
+use Rattle.std.proofs.Common.{◌≡◌, ◌/◌, ◌%◌, Bool, Option, Some, None, if◌then◌else◌, nat_le, true, get_or, slice_index, bit_and, refl, sym, subst, ◌∙◌}
 use Rattle.std.specs.Prelude.{IsSome}
 use Rattle.std.specs.Int.Bits.{and_mask}
-use Rattle.paygo_spec.specs.declared.TheConstants.{LAST}
-use Rattle.paygo_spec.specs.Window.{IsWindow}
+use Rattle.paygo_spec.specs.Recovery.{limit_in}
+use Rattle.paygo_spec.proofs.WindowTests.{window_test}
 use Rattle.paygo_spec.specs.Clock.{clock_with, is_clock}
 use Rattle.paygo_spec.proofs.Clocks.{clock_test}
 use Rattle.journal_laws.proofs.HeadRead.{head_summary}
@@ -13,8 +13,9 @@ some_if o b x e t = let is : o ≡ Some x = e ∙ rw t refl in subst IsSome (sym
 
 pub unwrap-requires : goal.unwrap-requires
 unwrap-requires c =
-    c.of_parts-window.ensures.rule.1
-    (subst (IsWindow LAST (get_or c.args.numbers.now 7 0 / 65536)) (sym (and_mask (get_or c.args.numbers.now 7 0) 16)) (head_summary (slice_index c.args.numbers.now) c.requires).window)
+    c.window_in-window.ensures.test
+    ∙ (window_test (limit_in (get_or c.args.numbers.now 6 0)) (get_or c.args.numbers.now 7 0 / 65536) (get_or c.args.numbers.now 7 0 % 65536)).1
+    (head_summary (slice_index c.args.numbers.now) c.requires).window
 
 pub unwrap-requires-2 : goal.unwrap-requires-2
 unwrap-requires-2 c =

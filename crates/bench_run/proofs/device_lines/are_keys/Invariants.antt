@@ -1,5 +1,5 @@
 use Rattle.std.proofs.Common.{◌≡◌, drop}
-use Rattle.paygo_spec.specs.Words.{are_key_text}
+use Rattle.run_spec.specs.DeviceLines.{are_key_text}
 use Rattle.bench_run.proofs.device_lines.are_keys.Given as goal
 
 abbrev pub invariant-loop-c : goal.invariant-loop-c

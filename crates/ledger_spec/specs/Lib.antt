@@ -1,0 +1,14 @@
+pub mod Names
+pub mod NameParts
+pub mod Putting
+pub mod Tables
+pub mod Issuing
+pub mod Ledger
+pub mod Keeper
+pub mod KeptOnce
+pub mod Applied
+pub mod Sorted
+pub mod Replay
+pub mod Sound
+pub mod Reading
+pub mod AnswerText

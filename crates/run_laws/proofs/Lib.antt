@@ -1,0 +1,6 @@
+pub mod Faults
+pub mod Standing
+pub mod Differing
+pub mod Once
+pub mod Typing
+pub mod Points

@@ -1,0 +1,9 @@
+pub mod Lines
+pub mod DeviceLines
+pub mod Run
+pub mod Unseen
+pub mod Meaning
+pub mod Text
+pub mod Ran
+pub mod Downs
+pub mod Headline

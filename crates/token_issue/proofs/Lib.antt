@@ -1,0 +1,5 @@
+pub mod Ranges
+pub mod AuditLemmas
+pub mod KeptLemmas
+pub mod Once
+pub mod Listed
