@@ -1,6 +1,7 @@
-# What chain-speed and search-speed share: the proved build of a small program beside the same program in plain
+# What chain-speed, search-speed and lanes-speed share: the proved build of a small program beside the same program in plain
 # Rust, run by turns. Each script sources this file, hands the text of both programs to `proved_main`,
-# `proved_invariant` and `plain_main` on their standard input, and then calls `compare`.
+# `proved_invariant` and `plain_main` on their standard input, and then calls `compare`, or `build_proved`, `build_plain` and
+# `measure` itself.
 #
 # Needs `rt` and `rustc` on the PATH. Works in a temporary folder, which it removes at the end.
 set -euo pipefail
@@ -15,17 +16,24 @@ done
 work=$(mktemp -d)
 trap 'rm -rf "$work"' EXIT
 
-# The proved program: a crate of its own, `speed`, over a copy of the repository's crates. The arguments are the
-# crates that it uses.
+# The proved program: a crate of its own, over a copy of the repository's crates. The arguments are the crates that it
+# uses.
+crate=speed
 proved_main() {
-    tar -C "$root" --exclude='crates/*/out' -cf - crates crates.txt HANDLES | tar -C "$work" -xf -
-    printf '\nspeed: %s\n' "$*" >>"$work/crates.txt"
-    mkdir -p "$work"/crates/speed/{src,proofs/main}
-    cat >"$work/crates/speed/src/main.rt"
+    [ -d "$work/crates" ] || tar -C "$root" --exclude='crates/*/out' -cf - crates crates.txt HANDLES | tar -C "$work" -xf -
+    printf '\n%s: %s\n' "$crate" "$*" >>"$work/crates.txt"
+    mkdir -p "$work/crates/$crate"/{src,proofs/main}
+    cat >"$work/crates/$crate/src/main.rt"
 }
 
-# What the loop of its main function keeps.
-proved_invariant() { cat >"$work/crates/speed/proofs/main/Invariants.antt"; }
+# What the loop of its main function keeps, and why, where the prover doesn't see that by itself.
+proved_invariant() { cat >"$work/crates/$crate/proofs/main/Invariants.antt"; }
+proved_answer() { cat >"$work/crates/$crate/proofs/main/Answers.antt"; }
+
+build_proved() {
+    (cd "$work/crates/$crate" && rt run >"$work/build.log" 2>&1) || { tail -20 "$work/build.log" >&2; exit 1; }
+}
+build_plain() { rustc -O --edition 2024 -A dead_code -o "$work/plain" "$work/plain.rs"; }
 
 # The plain program: the chain in Rust without contracts, in the same shape, and a main function.
 plain_main() {
@@ -113,10 +121,10 @@ fn step(key: &[u8; 16], code: u32) -> u32 {
 EOF
 }
 
-# Processor time and time by the clock of one run of a program, in seconds.
+# Processor time and time by the clock of one run of a program with its words, in seconds.
 measure() {
     local output TIMEFORMAT='%U %R'
-    { time output=$("$1"); } 2>&1
+    { time output=$("$@"); } 2>&1
 }
 
 median() { sort -n | sed -n "$(((repetitions + 1) / 2))p"; }
@@ -125,10 +133,10 @@ ratio() { awk -v a="$1" -v b="$2" 'BEGIN { printf "%.3f", a / b }'; }
 # Builds both programs and runs them by turns. Prints each time, the medians, and the ratio of proved to plain. The
 # first argument says what a run does. Both programs must print the same, and the second argument where there is one.
 compare() {
-    local proved=$work/crates/speed/out/speed plain=$work/plain wanted kind a b
+    local proved=$work/crates/$crate/out/$crate plain=$work/plain wanted kind a b
     echo "building both programs" >&2
-    (cd "$work/crates/speed" && rt run >"$work/build.log" 2>&1) || { tail -20 "$work/build.log" >&2; exit 1; }
-    rustc -O --edition 2024 -A dead_code -o "$plain" "$plain.rs"
+    build_proved
+    build_plain
 
     wanted=$("$plain")
     [ "$wanted" = "${2-$wanted}" ] || { echo "$script: the plain program prints $wanted" >&2; exit 1; }

@@ -9,4 +9,5 @@ mod output;
 
 pub use bench::{Bench, LineFault};
 pub use lines::{LINE_SIZE, Lines, LinesFault, Next};
+pub use output::write_line;
 pub use run_spec::Mode;

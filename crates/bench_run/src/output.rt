@@ -30,8 +30,13 @@ fn write_all<K: Sink>(sink: &mut K, bytes: &[u8]) -> Result<(), WriteFault>
     Ok(())
 }
 
-// Writes a line of at most 511 bytes, and its end.
-fn write_line<K: Sink>(sink: &mut K, line: Line) -> Result<(), WriteFault>
+/// Writes a line of at most 511 bytes, and the byte 10 behind it.
+///
+/// # Errors
+///
+/// `WriteFault` only where the sink's count of faults rose in this call, or stands at 2^64 - 1: fewer bytes than the line has
+/// with its end were written, the first ones.
+pub fn write_line<K: Sink>(sink: &mut K, line: Line) -> Result<(), WriteFault>
     requires { length line ≤ 511 }
     ensures wrote { Wrote (line ++ 10 ∷ []) result (K.view sink.old) (K.view sink.new) }
     ensures cause { HasCause (K.view sink.old).faults (K.view sink.new).faults result }

@@ -54,17 +54,18 @@ const KEPT: &str =
 {"no":11,"why":"price used","price":60}
 "#;
 
-/// What the shop over this keeper answers to these lines.
-fn served(
+/// What the program writes that is run with these words over this keeper, with these lines as its input.
+fn ran(
     alloc: Global,
     keeper: &mut SqliteKeeper<'_>,
+    words: &[&str],
     input: &str,
 ) -> Result<(Status, String), Memory> {
     let mut source = MemSource::new(alloc, input.as_bytes())?;
     let mut sink = MemSink::new(alloc, 8192)?;
     let status = run::<Stride<7>, MemSource, MemSink, SqliteKeeper<'_>, MemFlash>(
         alloc,
-        &["serve", "D"],
+        words,
         &mut source,
         &mut sink,
         keeper,
@@ -75,11 +76,19 @@ fn served(
     Ok((status, text))
 }
 
-/// The lines of three runs over one database, which is closed after each.
+/// The lines of three runs over one database, each with an audit behind it. The database is closed after each run.
 fn three_runs(rt: &impl Abort, alloc: Global, keeper: &mut SqliteKeeper<'_>) -> Result<(), Memory> {
-    for (input, want) in [(SALE, SOLD), (LATER, THEN), (AGAIN, KEPT)] {
-        let (status, text) = served(alloc, keeper, input)?;
+    let runs = [
+        (SALE, SOLD, "audited 1 1 0\n"),
+        (LATER, THEN, "audited 1 2 0\n"),
+        (AGAIN, KEPT, "audited 1 2 0\n"),
+    ];
+    for (input, want, found) in runs {
+        let (status, text) = ran(alloc, keeper, &["serve", "D"], input)?;
         assert_eq!(rt; (status, text.as_str()), (Status::Ok, want));
+        assert!(rt; keeper.close().is_ok());
+        let (status, text) = ran(alloc, keeper, &["audit", "D"], "power\n")?;
+        assert_eq!(rt; (status, text.as_str()), (Status::Ok, found));
         assert!(rt; keeper.close().is_ok());
     }
     Ok(())

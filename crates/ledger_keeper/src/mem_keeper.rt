@@ -1,5 +1,5 @@
 // A keeper in memory, whose fault is planned.
-ghost use Rattle.std.specs.Prelude.{◌≡◌, ◌≢◌, ◌+◌, ◌-◌, ◌^◌, ◌≤◌, min, true, false, Some, None, ◌∷◌, [], Err, IfOk, IfSome, IfNone, OnSome, IsSome, All, IsSomeAnd, if◌then◌else◌, find};
+ghost use Rattle.std.specs.Prelude.{◌≡◌, ◌≢◌, ◌+◌, ◌-◌, ◌^◌, ◌≤◌, length, min, true, false, Some, None, ◌∷◌, [], Err, IfOk, IfSome, IfNone, OnSome, IsSome, All, IsSomeAnd, if◌then◌else◌, find};
 ghost use Rattle.paygo_spec.specs.Faults.{Rose};
 ghost use Rattle.paygo_spec.specs.Streams.{raised};
 ghost use Rattle.ledger_spec.specs.declared.KeeperFault.TheVariants.{Failed};
@@ -56,6 +56,13 @@ impl MemKeeper {
             plan: None,
             faults: 0,
         }
+    }
+
+    /// How many orders it keeps. It isn't counted as a call.
+    pub fn orders(&self) -> usize
+        ensures { IfSome (⟦<MemKeeper as Keeper>⟧.view self.now).tables (λ tables. result ≡ length tables.orders) }
+    {
+        self.orders.len()
     }
 
     /// Plans the call of this number, counted from 1 over all calls, to fail, in the place of the one planned before; a

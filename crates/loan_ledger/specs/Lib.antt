@@ -1,1 +1,4 @@
 pub mod Knot
+pub mod Audit
+pub mod AuditText
+pub mod Jobs

@@ -18,6 +18,7 @@ macro_rules! told {
     };
 }
 
+mod audits;
 mod day;
 mod faults;
 mod rows;

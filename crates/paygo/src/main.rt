@@ -1,17 +1,18 @@
 // The program `paygo`: its words are run over standard input, standard output, a database of the shop and a file as the flash.
 #![tactic(auto)]
 
-ghost use Rattle.std.specs.Prelude.{◌≡◌};
+ghost use Rattle.std.specs.Prelude.{◌≡◌, map};
 ghost use Rattle.paygo.specs.Exit.{exit_of};
+ghost use Rattle.paygo.specs.Paths.{paths_with, paths_of};
 
 use keeper_sqlite::SqliteKeeper;
 use paygo_cli::{Status, message, run};
 use paygo_outside::{FlashFile, StdinSource, StdoutSink};
+use sip_lanes::Lanes;
 use std::fs::{File, OpenOptions};
 use std::io::ErrorKind;
 use std::process::ExitCode;
 use std::{env, io};
-use token_chain::Plain;
 
 /// The exit status of a program that found no memory for its words.
 const OUT_OF_MEMORY: u8 = 6;
@@ -69,14 +70,25 @@ fn run_words(rt: &HostRuntime) -> io::Result<Status> {
     run_texts(rt, words.as_slice())
 }
 
-// The database and the flash file that the words name: `serve DB`, `device FLASH` and `bench DB FLASH`. What they don't name has
-// an empty path, and is never called.
-fn paths(words: &[String]) -> (&str, &str) {
+// The paths of the database and of the flash file that the words name: `device FLASH` names a flash, `bench DB FLASH` both, and
+// every other form of two words a database. What they don't name has an empty path, and is never called.
+fn paths<'a>(words: &[&'a str]) -> (&'a str, &'a str)
+    ensures { (result.0.now, result.1.now) ≡ paths_of (map (λ word. word.now) words.now) }
+{
     match words {
-        [word, db] if word.as_str() == "serve" => (db.as_str(), ""),
-        [word, flash] if word.as_str() == "device" => ("", flash.as_str()),
-        [word, db, flash] if word.as_str() == "bench" => (db.as_str(), flash.as_str()),
+        [word, file] => path_with(word, file),
+        [_, tables, flash] => (tables, flash),
         _ => ("", ""),
+    }
+}
+
+// `device FLASH`, or another word and a database.
+fn path_with<'a>(word: &str, file: &'a str) -> (&'a str, &'a str)
+    ensures { (result.0.now, result.1.now) ≡ paths_with word.now file.now }
+{
+    match word {
+        "device" => ("", file),
+        _ => (file, ""),
     }
 }
 
@@ -86,13 +98,13 @@ fn run_texts(rt: &HostRuntime, words: &[String]) -> io::Result<Status> {
     for word in words {
         texts.push(word.as_str())?;
     }
-    let (db, flash) = paths(words);
+    let (tables, flash) = paths(texts.as_slice());
     let mut source = StdinSource::new(rt);
     let mut sink = StdoutSink::new(rt);
-    let mut keeper = SqliteKeeper::at(rt, String::from_str(rt.alloc(), db)?);
+    let mut keeper = SqliteKeeper::at(rt, String::from_str(rt.alloc(), tables)?);
     let mut flash = FlashFile::at(rt, String::from_str(rt.alloc(), flash)?);
     let status = run::<
-        Plain,
+        Lanes,
         StdinSource<HostRuntime>,
         StdoutSink<HostRuntime>,
         SqliteKeeper,

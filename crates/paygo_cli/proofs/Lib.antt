@@ -1,5 +1,3 @@
-pub mod Turning
-pub mod Looping
-pub mod Sides
-pub mod Promising
-pub mod Going
+pub mod Pieces
+pub mod Ending
+pub mod Fleets

@@ -1,37 +1,66 @@
 -- The forms of words on the command line, and what is said of a status.
-use Rattle.std.specs.Prelude.{◌==◌, length, List, [], ◌∷◌, ℕ, codes, Option, Some, None, if◌then◌else◌}
+use Rattle.std.specs.Prelude.{◌==◌, ◌&&◌, ◌-◌, ◌^◌, ◌≤◌, nat_le, length, List, [], ◌∷◌, ℕ, codes, Option, Some, None, option_and_then, if◌then◌else◌}
 use Rattle.std.specs.Str.{bytes_eq}
-use Rattle.run_spec.specs.declared.Mode.{Mode}
+use Rattle.paygo_spec.specs.Words.{decimal_in}
 use Rattle.run_spec.specs.declared.Mode.TheVariants as mode
 use Rattle.run_spec.specs.declared.Status.{Status}
 use Rattle.run_spec.specs.declared.Status.TheVariants as status
+use Rattle.paygo_cli.specs.declared.words.Work.{Work}
+use Rattle.paygo_cli.specs.declared.words.Work.TheVariants as work
 
--- Which lines a run takes, by its first word and the names of its files, which aren't empty: `serve DB` or `device FLASH`,
-abbrev pub mode_with : List ℕ → List ℕ → Option Mode
-mode_with word file =
+-- What the words ask for by the first one and the name of one file, which isn't empty: `serve DB`, `device FLASH` or `audit DB`.
+abbrev pub work_with_file : List ℕ → List ℕ → Option Work
+work_with_file word file =
     if length file == 0 then None
-    else if bytes_eq word (codes "serve") then Some mode.Serve
-    else if bytes_eq word (codes "device") then Some mode.Device
+    else if bytes_eq word (codes "serve") then Some (work.Lines mode.Serve)
+    else if bytes_eq word (codes "device") then Some (work.Lines mode.Device)
+    else if bytes_eq word (codes "audit") then Some work.Audit
     else None
 
--- or `bench DB FLASH`.
-abbrev pub mode_with_both : List ℕ → List ℕ → List ℕ → Option Mode
-mode_with_both word tables flash =
+-- `bench DB FLASH`
+abbrev pub work_with_files : List ℕ → List ℕ → List ℕ → Option Work
+work_with_files word tables flash =
     if length tables == 0 then None
     else if length flash == 0 then None
-    else if bytes_eq word (codes "bench") then Some mode.Both
+    else if bytes_eq word (codes "bench") then Some (work.Lines mode.Both)
     else None
 
--- Other words are no form.
-abbrev pub mode_of : List (List ℕ) → Option Mode
-mode_of (word ∷ file ∷ []) = mode_with word file
-mode_of (word ∷ tables ∷ flash ∷ []) = mode_with_both word tables flash
-mode_of _ = None
+-- The number that a word of 1 to 20 decimal digits says, where it lies between these two.
+abbrev pub number_between : ℕ → ℕ → List ℕ → Option ℕ
+number_between least most word = option_and_then (λ n. if nat_le least n && nat_le n most then Some n else None) (decimal_in 20 word)
+
+-- A fleet of these numbers: any seed of 64 bits, 1 to 200 devices and 1 to 400 days.
+abbrev pub fleet_of : Option ℕ → Option ℕ → Option ℕ → Option Work
+fleet_of (Some seed) (Some devices) (Some days) = Some (work.Fleet seed devices days)
+fleet_of _ _ _ = None
+
+-- `fleet SEED DEVICES DAYS`
+abbrev pub work_with_numbers : List ℕ → List ℕ → List ℕ → List ℕ → Option Work
+work_with_numbers word seed devices days =
+    if bytes_eq word (codes "fleet")
+    then fleet_of (number_between 0 (2 ^ 64 - 1) seed) (number_between 1 200 devices) (number_between 1 400 days)
+    else None
+
+-- Other words are of no form.
+abbrev pub work_of : List (List ℕ) → Option Work
+work_of (word ∷ file ∷ []) = work_with_file word file
+work_of (word ∷ tables ∷ flash ∷ []) = work_with_files word tables flash
+work_of (word ∷ seed ∷ devices ∷ days ∷ []) = work_with_numbers word seed devices days
+work_of _ = None
+
+-- The numbers of a fleet are in range.
+pub record FleetIsInRange (devices days : ℕ) : Type 0 where
+  pub devices_are : (1 ≤ devices) × (devices ≤ 200)
+  pub days_are : (1 ≤ days) × (days ≤ 400)
+
+abbrev pub WorkIsInRange : Work → Type 0
+WorkIsInRange (work.Fleet seed devices days) = FleetIsInRange devices days
+WorkIsInRange _ = Unit {0}
 
 -- What the program writes to standard error for a status, without the end of the line.
 abbrev pub message_of : Status → Option (List ℕ)
 message_of status.Ok = None
-message_of status.Usage = Some (codes "usage: paygo serve DB | device FLASH | bench DB FLASH")
+message_of status.Usage = Some (codes "usage: paygo serve DB | device FLASH | bench DB FLASH | audit DB | fleet SEED DEVICES DAYS")
 message_of status.Read = Some (codes "paygo: read fault")
 message_of status.Write = Some (codes "paygo: write fault")
 message_of status.Keep = Some (codes "paygo: keeper fault")

@@ -1,3 +1,2 @@
 pub mod Forms
-pub mod Turn
-pub mod Runs
+pub mod Ends

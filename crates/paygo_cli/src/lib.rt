@@ -2,9 +2,12 @@
 // tables and the flash.
 #![tactic(auto)]
 
+mod auditing;
+mod simulating;
 mod top_call;
 mod words;
+mod writing;
 
 pub use run_spec::Status;
 pub use top_call::run;
-pub use words::message;
+pub use words::{Work, message, work_in};

@@ -1,139 +1,54 @@
 // A whole run.
-ghost use Rattle.std.specs.Prelude.{◌≡◌, ◌≢◌, ◌⊎◌, ◌↔◌, ◌≤◌, true, List, ℕ, map, Some, None};
-ghost use Rattle.paygo_spec.specs.Machine.{Stored};
+ghost use Rattle.std.specs.Prelude.{◌≡◌, ◌≢◌, ◌⊎◌, ◌↔◌, true, List, ℕ, map, Some, None};
 ghost use Rattle.ledger_spec.specs.Tables.{Tables};
-ghost use Rattle.run_spec.specs.declared.Mode.{Mode};
-ghost use Rattle.run_spec.specs.Run.{beginning};
-ghost use Rattle.run_spec.specs.Ran.{Agree, uses_keeper};
-ghost use Rattle.device_core.specs.Memory.{Holds};
-ghost use Rattle.bench_run.specs.Bench.{desk, of_line};
-ghost use Rattle.paygo_cli.specs.Forms.{mode_of};
-ghost use Rattle.paygo_cli.specs.Runs.{outside, NeverFalls, Causes, IsCalm, IsLong, Reads, RunOf, RunUnseen};
-ghost use Rattle.paygo_cli.specs.Turn.{Turned, ended_by};
+ghost use Rattle.run_spec.specs.declared.Mode.{Mode as Taken};
+ghost use Rattle.loan_ledger.specs.Audit.{audited};
+ghost use Rattle.loan_ledger.specs.AuditText.{text_of_findings};
+ghost use Rattle.line_loop.specs.Runs.{outside, NeverFalls, Causes, IsCalm, IsLong, Reads, RunsTold, RunsUnseen};
+ghost use Rattle.paygo_cli.specs.Forms.{work_of};
+ghost use Rattle.paygo_cli.specs.Ends.{WritesText, WritesFleet};
 
-use crate::words::mode_in;
-use bench_run::{Bench, LineFault, Lines, LinesFault, Next};
+use crate::auditing::run_audit;
+use crate::simulating::run_simulation;
+use crate::words::{Work, work_in};
 use ledger_keeper::Keeper;
-use paygo_outside::{Flash, Sink, Source, WriteFault};
-use run_spec::{Mode, Status};
+use line_loop::run_lines;
+use paygo_outside::{Flash, Sink, Source};
+use run_spec::Status;
 use std::alloc::Global;
 use token_chain::Mixer;
 
-/// The most bytes of input that are taken in one run: 2^40.
-const BUDGET: u64 = 1 << 40;
-
-// Takes the next line and answers it. Answers the status where the run ends with it.
-fn turn<M: Mixer, S: Source, K: Sink, D: Keeper, F: Flash>(
-    alloc: Global,
-    mode: Mode,
-    lines: &mut Lines,
-    bench: &mut Bench<M>,
-    source: &mut S,
-    sink: &mut K,
-    keeper: &mut D,
-    flash: &mut F,
-) -> Option<Status>
-    requires { Holds bench.old (F.view flash.old) }
-    ensures holds { Holds bench.new (F.view flash.new) }
-    ensures later { ((K.view sink.old).faults ≤ (K.view sink.new).faults) × ((D.view keeper.old).faults ≤ (D.view keeper.new).faults) × ((F.view flash.old).faults ≤ (F.view flash.new).faults) }
-    ensures keeper { mode ≡ Mode.Device → keeper.new ≡ keeper.old }
-    ensures flash { mode ≡ Mode.Serve → flash.new ≡ flash.old }
-    ensures turned { Turned M.next mode result
-        (record { lines = lines.old; source = S.view source.old; desk = desk bench.old (D.view keeper.old) (F.view flash.old) (K.view sink.old) })
-        (record { lines = lines.new; source = S.view source.new; desk = desk bench.new (D.view keeper.new) (F.view flash.new) (K.view sink.new) }) }
-{
-    let mut line = [0u8; 4096];
-    match lines.next(source, &mut line) {
-        Ok(Next::Line { len }) => ended(bench.line(alloc, mode, &line[..len], keeper, flash, sink)),
-        Ok(Next::Long { length }) => long_ended(bench.long(length, sink)),
-        Ok(Next::End) => Some(Status::Ok),
-        Err(LinesFault::Read) => Some(Status::Read),
-        Err(LinesFault::Budget) => Some(Status::Long),
-    }
-}
-
-// The status with which a run ends where a line failed.
-fn ended(outcome: Result<(), LineFault>) -> Option<Status>
-    ensures { result ≡ ended_by outcome }
-{
-    match outcome {
-        Ok(()) => None,
-        Err(LineFault::Write) => Some(Status::Write),
-        Err(LineFault::Keep) => Some(Status::Keep),
-        Err(LineFault::Memory) => Some(Status::Memory),
-    }
-}
-
-// The status with which a run ends where the sink failed.
-fn long_ended(outcome: Result<(), WriteFault>) -> Option<Status>
-    ensures { result ≡ ended_by (of_line outcome) }
-{
-    match outcome {
-        Ok(()) => None,
-        Err(WriteFault) => Some(Status::Write),
-    }
-}
-
-// Runs the lines of the source over keeper and flash, with a device that is off at first.
-fn lines_of<M: Mixer, S: Source, K: Sink, D: Keeper, F: Flash>(
-    alloc: Global,
-    mode: Mode,
-    source: &mut S,
-    sink: &mut K,
-    keeper: &mut D,
-    flash: &mut F,
-) -> Status
-    ensures usage { result ≢ Status.Usage }
-    ensures keeper { mode ≡ Mode.Device → (keeper.new ≡ keeper.old) × (result ≢ Status.Keep) × (result ≢ Status.Memory) }
-    ensures flash { mode ≡ Mode.Serve → flash.new ≡ flash.old }
-    ensures later { NeverFalls (outside (S.view source.old) (K.view sink.old) (D.view keeper.old) (F.view flash.old)) (outside (S.view source.new) (K.view sink.new) (D.view keeper.new) (F.view flash.new)) }
-    ensures causes { Causes result (outside (S.view source.old) (K.view sink.old) (D.view keeper.old) (F.view flash.old)) (outside (S.view source.new) (K.view sink.new) (D.view keeper.new) (F.view flash.new)) }
-    ensures long { IsLong result (S.view source.old) (S.view source.new) }
-    ensures read { (bytes : List ℕ) → (S.view source.old).left ≡ Some bytes → Reads result bytes (S.view source.new) }
-    ensures run { (bytes before : List ℕ) (tables : Tables) (stored : Stored) →
-        (S.view source.old).left ≡ Some bytes → (K.view sink.old).written ≡ Some before →
-        Agree mode (D.view keeper.old) (F.view flash.old) (beginning tables stored (F.view flash.old).faults) →
-        RunOf M.next mode result bytes before (beginning tables stored (F.view flash.old).faults)
-        (outside (S.view source.new) (K.view sink.new) (D.view keeper.new) (F.view flash.new)) }
-    ensures unseen { (bytes before : List ℕ) (tables : Tables) (stored : Stored) →
-        (S.view source.old).left ≡ Some bytes → (K.view sink.old).written ≡ Some before →
-        (uses_keeper mode ≡ true → (D.view keeper.old).tables ≡ Some tables) →
-        RunUnseen M.next mode result bytes before (beginning tables stored (F.view flash.old).faults)
-        (outside (S.view source.new) (K.view sink.new) (D.view keeper.new) (F.view flash.new)) }
-{
-    let mut lines = Lines::new(BUDGET);
-    let mut bench = Bench::<M>::start();
-    'turns: loop {
-        match turn(
-            alloc, mode, &mut lines, &mut bench, source, sink, keeper, flash,
-        ) {
-            None => {}
-            Some(status) => return status,
-        }
-    }
-}
-
 /// Runs the program by its words: `serve DB` takes the lines of the source to the ledger over the keeper, `device FLASH` to
 /// a device over the flash, and `bench DB FLASH` to both, and each writes the answers to the sink, each before the next
-/// event happens or the next line is taken. The device is off at first.
+/// event happens or the next line is taken. The device is off at first. `audit DB` checks each token that the keeper's tables
+/// hold, and writes the ids of the wrong ones and how many there are. `fleet SEED DEVICES DAYS` draws a fleet from the seed, runs
+/// it in memory, and writes its totals.
 ///
 /// - `Usage` exactly where the words are no form that the program knows. Nothing is read or written then.
-/// - `Ok` only where the source has told its end; every line was answered.
-/// - `Read` only where the source's count of faults rose, or stands at 2^64 - 1. Every whole line was answered.
+/// - `Ok` where lines are taken only where the source has told its end; every line was answered. Of an audit and a fleet the
+///   whole text was written.
+/// - `Read` only where the source's count of faults rose, or stands at 2^64 - 1, and only where lines are taken. Every whole line
+///   was answered.
 /// - `Write` only where the sink's count of faults rose, or stands at 2^64 - 1. The steps of the lines were answered up to
-///   one whose answer was cut, and no later one was taken; each earlier answer was written whole.
-/// - `Keep` only where the keeper's count of faults rose, or stands at 2^64 - 1, and never for `device`. Every line before
-///   one of the ledger was answered; the tables are as before that line, or have the whole change of its command.
-/// - `Memory` where there was none for a line of the ledger; never for `device`. Every line before it was answered, and the
-///   tables are as before it.
-/// - `Long` exactly where 2^40 bytes were taken, the source hasn't told its end, and every whole line was answered.
+///   one whose answer was cut, and no later one was taken; each earlier answer was written whole. The text of an audit or a fleet
+///   was cut.
+/// - `Keep` only where the keeper's count of faults rose, or stands at 2^64 - 1, and never for `device` and `fleet`. Every line
+///   before one of the ledger was answered; the tables are as before that line, or have the whole change of its command. Of an
+///   audit nothing was written.
+/// - `Memory` where there was none for a line of the ledger, for the audit or for the fleet; never for `device`. Every line before
+///   it was answered, and the tables are as before it. Of an audit and a fleet nothing was written.
+/// - `Long` where lines are taken, exactly where 2^40 bytes were taken, the source hasn't told its end, and every whole line was
+///   answered.
 ///
 /// Where no count of faults rises, the status is `Ok`, `Long` or, but for `device`, `Memory`, and no answer is `down`. Each
 /// `down` has a rise of the flash's count of its own.
 ///
 /// Where source, sink, keeper and flash tell what they hold, the answers are those of the machine of shop and device, and from
 /// sound tables the shop's and the customer's promises are kept (`run`). Over a flash that tells no words, as a file tells
-/// none, each answer of the device is that of its machine by what it has in memory (`unseen`). It takes memory but for `device`.
+/// none, each answer of the device is that of its machine by what it has in memory (`unseen`). An audit changes nothing, and writes
+/// what there is to find in tables that are told (`audited`). A fleet's totals are those of shop and devices on the days that the
+/// seed draws, each planned power cut in the event in which it falls; where none is planned they are a function of the words
+/// (`simulated`). It takes memory but for `device`.
 pub fn run<M: Mixer, S: Source, K: Sink, D: Keeper, F: Flash>(
     alloc: Global,
     words: &[&str],
@@ -142,31 +57,44 @@ pub fn run<M: Mixer, S: Source, K: Sink, D: Keeper, F: Flash>(
     keeper: &mut D,
     flash: &mut F,
 ) -> Status
-    ensures usage { (result ≡ Status.Usage) ↔ (mode_of (map (λ word. word.now) words.now) ≡ None) }
+    ensures usage { (result ≡ Status.Usage) ↔ (work_of (map (λ word. word.now) words.now) ≡ None) }
     ensures unused { result ≡ Status.Usage → (source.new ≡ source.old) × (sink.new ≡ sink.old) × (keeper.new ≡ keeper.old) × (flash.new ≡ flash.old) }
-    ensures device { mode_of (map (λ word. word.now) words.now) ≡ Some Mode.Device → (keeper.new ≡ keeper.old) × (result ≢ Status.Keep) × (result ≢ Status.Memory) }
-    ensures serve { mode_of (map (λ word. word.now) words.now) ≡ Some Mode.Serve → flash.new ≡ flash.old }
+    ensures device { work_of (map (λ word. word.now) words.now) ≡ Some (Work.Lines Taken.Device) → (keeper.new ≡ keeper.old) × (result ≢ Status.Keep) × (result ≢ Status.Memory) }
+    ensures serve { work_of (map (λ word. word.now) words.now) ≡ Some (Work.Lines Taken.Serve) → flash.new ≡ flash.old }
+    ensures audit { work_of (map (λ word. word.now) words.now) ≡ Some Work.Audit →
+        (source.new ≡ source.old) × (flash.new ≡ flash.old) × ((D.view keeper.new).tables ≡ (D.view keeper.old).tables) × (result ≢ Status.Read) × (result ≢ Status.Long) }
+    ensures fleet { (seed devices days : ℕ) → work_of (map (λ word. word.now) words.now) ≡ Some (Work.Fleet seed devices days) →
+        (source.new ≡ source.old) × (keeper.new ≡ keeper.old) × (flash.new ≡ flash.old) × (result ≢ Status.Read) × (result ≢ Status.Keep) × (result ≢ Status.Long) }
     ensures later { NeverFalls (outside (S.view source.old) (K.view sink.old) (D.view keeper.old) (F.view flash.old)) (outside (S.view source.new) (K.view sink.new) (D.view keeper.new) (F.view flash.new)) }
     ensures causes { Causes result (outside (S.view source.old) (K.view sink.old) (D.view keeper.old) (F.view flash.old)) (outside (S.view source.new) (K.view sink.new) (D.view keeper.new) (F.view flash.new)) }
-    ensures long { result ≢ Status.Usage → IsLong result (S.view source.old) (S.view source.new) }
-    ensures read { result ≢ Status.Usage → (bytes : List ℕ) → (S.view source.old).left ≡ Some bytes → Reads result bytes (S.view source.new) }
+    ensures ended { (mode : Taken) → work_of (map (λ word. word.now) words.now) ≡ Some (Work.Lines mode) → result ≡ Status.Ok → (S.view source.new).ended ≡ true }
+    ensures long { (mode : Taken) → work_of (map (λ word. word.now) words.now) ≡ Some (Work.Lines mode) → IsLong result (S.view source.old) (S.view source.new) }
+    ensures read { (mode : Taken) → work_of (map (λ word. word.now) words.now) ≡ Some (Work.Lines mode) →
+        (bytes : List ℕ) → (S.view source.old).left ≡ Some bytes → Reads result bytes (S.view source.new) }
     ensures complete { result ≢ Status.Usage → IsCalm (S.view source.old).faults (S.view source.new).faults → IsCalm (K.view sink.old).faults (K.view sink.new).faults → IsCalm (D.view keeper.old).faults (D.view keeper.new).faults →
         (result ≡ Status.Ok) ⊎ ((result ≡ Status.Long) ⊎ (result ≡ Status.Memory)) }
-    ensures run { (mode : Mode) → mode_of (map (λ word. word.now) words.now) ≡ Some mode →
-        (bytes before : List ℕ) (tables : Tables) (stored : Stored) →
-        (S.view source.old).left ≡ Some bytes → (K.view sink.old).written ≡ Some before →
-        Agree mode (D.view keeper.old) (F.view flash.old) (beginning tables stored (F.view flash.old).faults) →
-        RunOf M.next mode result bytes before (beginning tables stored (F.view flash.old).faults)
-        (outside (S.view source.new) (K.view sink.new) (D.view keeper.new) (F.view flash.new)) }
-    ensures unseen { (mode : Mode) → mode_of (map (λ word. word.now) words.now) ≡ Some mode →
-        (bytes before : List ℕ) (tables : Tables) (stored : Stored) →
-        (S.view source.old).left ≡ Some bytes → (K.view sink.old).written ≡ Some before →
-        (uses_keeper mode ≡ true → (D.view keeper.old).tables ≡ Some tables) →
-        RunUnseen M.next mode result bytes before (beginning tables stored (F.view flash.old).faults)
-        (outside (S.view source.new) (K.view sink.new) (D.view keeper.new) (F.view flash.new)) }
+    ensures run { (mode : Taken) → work_of (map (λ word. word.now) words.now) ≡ Some (Work.Lines mode) →
+        RunsTold M.next mode result (outside (S.view source.old) (K.view sink.old) (D.view keeper.old) (F.view flash.old)) (outside (S.view source.new) (K.view sink.new) (D.view keeper.new) (F.view flash.new)) }
+    ensures unseen { (mode : Taken) → work_of (map (λ word. word.now) words.now) ≡ Some (Work.Lines mode) →
+        RunsUnseen M.next mode result (outside (S.view source.old) (K.view sink.old) (D.view keeper.old) (F.view flash.old)) (outside (S.view source.new) (K.view sink.new) (D.view keeper.new) (F.view flash.new)) }
+    ensures audited { work_of (map (λ word. word.now) words.now) ≡ Some Work.Audit →
+        (tables : Tables) (before : List ℕ) → (D.view keeper.old).tables ≡ Some tables → (K.view sink.old).written ≡ Some before →
+        WritesText result (text_of_findings (audited M.next tables)) before (K.view sink.new) }
+    ensures simulated { (seed devices days : ℕ) → work_of (map (λ word. word.now) words.now) ≡ Some (Work.Fleet seed devices days) →
+        (before : List ℕ) → (K.view sink.old).written ≡ Some before → WritesFleet M.next seed devices days result before (K.view sink.new) }
 {
-    match mode_in(words) {
-        Some(mode) => lines_of::<M, S, K, D, F>(alloc, mode, source, sink, keeper, flash),
+    match work_in(words) {
+        Some(Work::Lines(mode)) => {
+            run_lines::<M, S, K, D, F>(alloc, mode, source, sink, keeper, flash)
+        }
+        Some(Work::Audit) => run_audit::<M, K, D>(alloc, sink, keeper),
+        Some(
+            Work::Fleet {
+                seed,
+                devices,
+                days,
+            },
+        ) => run_simulation::<M, K>(alloc, seed, devices, days, sink),
         None => Status::Usage,
     }
 }

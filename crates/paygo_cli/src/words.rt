@@ -1,45 +1,117 @@
 // The words of the command line, and what is said of a status.
-ghost use Rattle.std.specs.Prelude.{◌≡◌, map, option_copied};
-ghost use Rattle.paygo_cli.specs.Forms.{mode_with, mode_with_both, mode_of, message_of};
+ghost use Rattle.std.specs.Prelude.{◌≡◌, ◌<◌, ◌≤◌, ◌^◌, IfSome, length, map, option_copied};
+ghost use Rattle.paygo_spec.specs.Words.{is_decimal, digits_from, decimal_in};
+ghost use Rattle.paygo_cli.specs.Forms.{work_with_file, work_with_files, work_with_numbers, number_between, work_of, WorkIsInRange, message_of};
 
 use run_spec::{Mode, Status};
 
-// Which lines the run takes, by its words.
-pub(crate) fn mode_in(words: &[&str]) -> Option<Mode>
-    ensures { result ≡ mode_of (map (λ word. word.now) words.now) }
+/// What the words of the command line ask for.
+#[derive(Clone, Copy, Debug, PartialEq, Eq)]
+pub enum Work {
+    /// Lines are taken: `serve DB`, `device FLASH` or `bench DB FLASH`.
+    Lines(Mode),
+    /// Each token that the shop keeps is checked again: `audit DB`.
+    Audit,
+    /// A fleet of 1 to 200 devices over 1 to 400 days is drawn from a number, and run: `fleet SEED DEVICES DAYS`.
+    Fleet { seed: u64, devices: u32, days: u32 },
+}
+
+/// What the words ask for; None exactly where they are of no form that the program knows.
+pub fn work_in(words: &[&str]) -> Option<Work>
+    ensures work { result ≡ work_of (map (λ word. word.now) words.now) }
+    ensures range { IfSome result WorkIsInRange }
 {
     match words {
-        [word, file] => mode_with_file(word, file),
-        [word, tables, flash] => mode_with_files(word, tables, flash),
+        [word, file] => with_file(word, file),
+        [word, tables, flash] => with_files(word, tables, flash),
+        [word, seed, devices, days] => with_numbers(word, seed, devices, days),
         _ => None,
     }
 }
 
-// `serve DB` or `device FLASH`
-fn mode_with_file(word: &str, file: &str) -> Option<Mode>
-    ensures { result ≡ mode_with word.now file.now }
+// `serve DB`, `device FLASH` or `audit DB`
+fn with_file(word: &str, file: &str) -> Option<Work>
+    ensures work { result ≡ work_with_file word.now file.now }
+    ensures range { IfSome result WorkIsInRange }
 {
     if file.is_empty() {
         return None;
     }
     match word {
-        "serve" => Some(Mode::Serve),
-        "device" => Some(Mode::Device),
+        "serve" => Some(Work::Lines(Mode::Serve)),
+        "device" => Some(Work::Lines(Mode::Device)),
+        "audit" => Some(Work::Audit),
         _ => None,
     }
 }
 
 // `bench DB FLASH`
-fn mode_with_files(word: &str, tables: &str, flash: &str) -> Option<Mode>
-    ensures { result ≡ mode_with_both word.now tables.now flash.now }
+fn with_files(word: &str, tables: &str, flash: &str) -> Option<Work>
+    ensures work { result ≡ work_with_files word.now tables.now flash.now }
+    ensures range { IfSome result WorkIsInRange }
 {
     if tables.is_empty() || flash.is_empty() {
         return None;
     }
     match word {
-        "bench" => Some(Mode::Both),
+        "bench" => Some(Work::Lines(Mode::Both)),
         _ => None,
     }
+}
+
+// `fleet SEED DEVICES DAYS`
+fn with_numbers(word: &str, seed: &str, devices: &str, days: &str) -> Option<Work>
+    ensures work { result ≡ work_with_numbers word.now seed.now devices.now days.now }
+    ensures range { IfSome result WorkIsInRange }
+{
+    if word != "fleet" {
+        return None;
+    }
+    let seed = number(seed, 0, u64::MAX)?;
+    let devices = number(devices, 1, 200)?;
+    let days = number(days, 1, 400)?;
+    Some(Work::Fleet {
+        seed,
+        devices: devices as u32,
+        days: days as u32,
+    })
+}
+
+// The number that a word of 1 to 20 decimal digits says, where it lies between these two.
+fn number(word: &str, least: u64, most: u64) -> Option<u64>
+    ensures value { result ≡ number_between least most word.now }
+    ensures range { IfSome result (λ n. (least ≤ n) × (n ≤ most)) }
+{
+    let n = decimal(word.as_bytes())?;
+    if u128::from(least) <= n && n <= u128::from(most) {
+        Some(n as u64)
+    } else {
+        None
+    }
+}
+
+// The number that 1 to 20 decimal digits say.
+fn decimal(word: &[u8]) -> Option<u128>
+    ensures { result ≡ decimal_in 20 word.now }
+{
+    if word.is_empty() || word.len() > 20 {
+        return None;
+    }
+    let mut n = 0u128;
+    for c in word {
+        if !is_digit(*c) {
+            return None;
+        }
+        n = n * 10 + u128::from(*c - b'0');
+    }
+    Some(n)
+}
+
+// Whether a byte is a decimal digit.
+fn is_digit(c: u8) -> bool
+    ensures { result ≡ is_decimal c }
+{
+    b'0' <= c && c <= b'9'
 }
 
 /// The line that the program writes to standard error for a status, without its end; None for `Ok`.
@@ -48,7 +120,9 @@ pub fn message(status: Status) -> Option<&'static str>
 {
     match status {
         Status::Ok => None,
-        Status::Usage => Some("usage: paygo serve DB | device FLASH | bench DB FLASH"),
+        Status::Usage => Some(
+            "usage: paygo serve DB | device FLASH | bench DB FLASH | audit DB | fleet SEED DEVICES DAYS",
+        ),
         Status::Read => Some("paygo: read fault"),
         Status::Write => Some("paygo: write fault"),
         Status::Keep => Some("paygo: keeper fault"),

@@ -1,7 +1,9 @@
 // Runs of the program over objects in memory. Each device here is made, or enrolled, with a key of 16 zeros, the starting code
 // 123456789, whole days and nine digits unless a row says otherwise, and the counts of its chain are 7,000 apart.
+mod audits;
 mod bench;
 mod cuts;
+mod fleets;
 mod images;
 mod ledger;
 mod raise;
@@ -21,6 +23,9 @@ const DEVICE: [&str; 2] = ["device", "F"];
 const SERVE: [&str; 2] = ["serve", "D"];
 
 const BENCH: [&str; 3] = ["bench", "D", "F"];
+
+/// The words of an audit.
+const AUDIT: [&str; 2] = ["audit", "D"];
 
 /// The lines that make a fresh device over an erased flash: 3 calls of the flash, and then 15.
 const MAKE: &str = "power\nmake 00000000000000000000000000000000 123456789 1 9\n";

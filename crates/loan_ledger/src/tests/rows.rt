@@ -7,7 +7,7 @@ use ledger_spec::{Ask, Row};
 use token_chain::Stride;
 
 /// A chain for tests in which the counts 2 and 700 have one code where the value is 7, so that count 2 isn't clean.
-struct Knot;
+pub(super) struct Knot;
 
 impl Mixer for Knot {
     ghost next = { knot_next };

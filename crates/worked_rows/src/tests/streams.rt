@@ -39,7 +39,7 @@ fn faults_of_the_streams_end_a_run(rt: HostRuntime) -> Result<(), Memory> {
 fn words_of_the_command_line(rt: HostRuntime) -> Result<(), Memory> {
     // a source whose first read fails shows whether it is read
     let fails = Plan { read: 1, ..CALM };
-    let rows: [(&[&str], &str, Plan, Status); 14] = [
+    let rows: [(&[&str], &str, Plan, Status); 24] = [
         (&["serve"], "power\n", fails, Status::Usage),
         (&["serve", ""], "power\n", fails, Status::Usage),
         (&["serve", "D", "F"], "power\n", fails, Status::Usage),
@@ -48,7 +48,37 @@ fn words_of_the_command_line(rt: HostRuntime) -> Result<(), Memory> {
         (&["serve", "D"], "power\n", fails, Status::Read),
         (&["bench", "D", "F"], "power\n", fails, Status::Read),
         (&[], "power\n", fails, Status::Usage),
+        (&["audit"], "power\n", fails, Status::Usage),
+        (&["audit", ""], "power\n", fails, Status::Usage),
+        (&["audit", "D", "F"], "power\n", fails, Status::Usage),
         (&["fleet", "1", "0", "5"], "power\n", fails, Status::Usage),
+        (
+            &["fleet", "42", "201", "5"],
+            "power\n",
+            fails,
+            Status::Usage,
+        ),
+        (
+            &["fleet", "42", "1", "401"],
+            "power\n",
+            fails,
+            Status::Usage,
+        ),
+        (&["fleet", "42", "1", "-5"], "power\n", fails, Status::Usage),
+        (&["fleet", "", "1", "5"], "power\n", fails, Status::Usage),
+        (
+            &["fleet", "18446744073709551616", "1", "5"],
+            "power\n",
+            fails,
+            Status::Usage,
+        ),
+        (
+            &["fleet", "000000000000000000042", "1", "5"],
+            "power\n",
+            fails,
+            Status::Usage,
+        ),
+        (&["fleet", "42", "1"], "power\n", fails, Status::Usage),
         (&["device", ""], "power\n", fails, Status::Usage),
         (&["device"], "power\n", fails, Status::Usage),
         (&["device", "F", "x"], "power\n", fails, Status::Usage),

@@ -1,0 +1,4 @@
+pub mod Acting
+pub mod Alike
+pub mod Stepping
+pub mod Laws

@@ -1,0 +1,360 @@
+-- A whole run: what stays true from turn to turn, and what follows at its end.
+use Rattle.std.proofs.Common.{◌≡◌, ◌≢◌, ◌⊎◌, inl, inr, ℕ, ◌+◌, ◌-◌, ◌^◌, ◌<◌, ◌≤◌, Bool, true, false, List, [], ◌∷◌, ◌++◌, length, Option, Some, None, refl, sym, ap, ◌∙◌, arith, append_assoc, append-nil, length-append, subst}
+use Rattle.std.proofs.lemmas.Bool.{cases_eq}
+use Rattle.std.specs.Io.KnownBytes.{IsAtEnd}
+use Rattle.std.specs.Prelude.{IfSome, is_some}
+use Rattle.paygo_spec.specs.declared.Event.{Event}
+use Rattle.paygo_spec.specs.declared.Reply.{Reply}
+use Rattle.paygo_spec.specs.declared.Reply.TheVariants.{Down}
+use Rattle.paygo_spec.specs.Faults.{Rose}
+use Rattle.paygo_spec.specs.Flash.{FlashView}
+use Rattle.paygo_spec.specs.Machine.{State, Stored, StandsAs, Acts}
+use Rattle.paygo_spec.specs.Pad.{kept_of, no_keys}
+use Rattle.paygo_spec.specs.Recovery.{Recovered, recover}
+use Rattle.paygo_spec.specs.Streams.{SourceView, SinkView, raised}
+use Rattle.ledger_spec.specs.Keeper.{KeeperView}
+use Rattle.ledger_spec.specs.Sound.{StaysBelow}
+use Rattle.ledger_spec.specs.Tables.{Tables}
+use Rattle.run_spec.specs.declared.Mode.{Mode}
+use Rattle.run_spec.specs.declared.Mode.TheVariants as mode_is
+use Rattle.run_spec.specs.declared.Status.{Status}
+use Rattle.run_spec.specs.declared.Status.TheVariants as status
+use Rattle.run_spec.specs.Run.{World, beginning}
+use Rattle.run_spec.specs.Unseen.{ActsUnseen}
+use Rattle.run_spec.specs.Ran.{Agree, uses_keeper, uses_flash}
+use Rattle.run_spec.specs.Downs.{RisesAtDowns, downs}
+use Rattle.run_laws.proofs.Faults.{acts_later, acts_rose, unseen_later, unseen_rose, rises_by, no_down_by, few_downs_by}
+use Rattle.device_core.specs.declared.device.Device.{Device}
+use Rattle.device_core.specs.Memory.{Agrees, Recalls, Backs, Holds, found_by, is_on}
+use Rattle.bench_run.specs.Reader.{LinesView, Came, IsLine}
+use Rattle.bench_run.specs.Bench.{desk, IsAt}
+use Rattle.bench_run.proofs.Gathering.{raised-raised}
+use Rattle.bench_run.proofs.Runs.{agree_at}
+use Rattle.line_loop.specs.Runs.{NeverFalls, Causes, IsLong, StaysAside, Reads, Ran, RunOf, RunUnseen}
+use Rattle.line_loop.specs.Turn.{Parts, Turns, Turned}
+use Rattle.line_loop.proofs.Looping.{out, next_left, SoFar, Ended, went_on, run_ends}
+use Rattle.line_loop.proofs.Promising.{stand, promise, same_device}
+use Rattle.line_loop.proofs.Sides.{aside}
+
+-- What was read up to here of a source that tells its bytes.
+pub record SoRead (bytes : List ℕ) (lines : LinesView) (source : SourceView) : Type 0 where
+  pub taken : List ℕ
+  pub rest : List ℕ
+  pub split : bytes ≡ taken ++ rest
+  pub left : source.left ≡ Some rest
+  pub counted : length taken ≡ lines.taken
+
+none_left : (left : Option (List ℕ)) (rest : List ℕ) → IsAtEnd left → left ≡ Some rest → rest ≡ []
+none_left None rest at_end is = cc
+none_left (Some known) rest at_end is = let same : known ≡ rest = cc in sym same ∙ at_end
+
+reads_of : (result : Status) (bytes : List ℕ) (lines : LinesView) (source : SourceView) → lines.taken ≤ 2 ^ 40 → (was : SoRead bytes lines source) → (result ≡ status.Ok → was.rest ≡ [])
+    → (result ≡ status.Long → length was.taken ≡ 2 ^ 40) → Reads result bytes source
+reads_of result bytes lines source most was ok long =
+    record { taken = was.taken; rest = was.rest; split = was.split; left = was.left; most = omega (arith, most, was.counted); ok = ok; long = long }
+
+-- what stands at the end of a run, by what a device and its flash stand for, has the flash's count of faults: also where the
+-- run leaves the flash out
+count_now : (mode : Mode) (start now : World) (flash first : FlashView) → (uses_flash mode ≡ true → now.device.faults ≡ flash.faults) → StaysAside mode start now → (mode ≡ mode_is.Serve → flash ≡ first)
+    → start.device.faults ≡ first.faults → now.device.faults ≡ flash.faults
+count_now mode_is.Serve start now flash first counts aside same begun = ap (λ (s : State). s.faults) (aside.device refl) ∙ begun ∙ ap (λ (f : FlashView). f.faults) (sym (same refl))
+count_now mode_is.Device start now flash first counts aside same begun = counts refl
+count_now mode_is.Both start now flash first counts aside same begun = counts refl
+
+-- What a run stands for at its end.
+record IsRan (acts : Event → Option Reply → State → State → Type 0) (stands : Device → FlashView → State → Type 0) (next : List ℕ → ℕ → ℕ) (mode : Mode) (result : Status) (bytes before : List ℕ) (start : World) (new : Parts)
+    (ends : Ended acts stands next mode result bytes before start new) (ran : Ran acts next mode result bytes before start (out new)) : Type 0 where
+  is_at : IsAt stands mode new.desk ran.now
+
+-- What stays true from turn to turn.
+pub record Going (next : List ℕ → ℕ → ℕ) (mode : Mode) (old now : Parts) : Type 0 where
+  pub budget : now.lines.budget ≡ 2 ^ 40
+  pub most : now.lines.taken ≤ now.lines.budget
+  pub taken : now.source.taken ≡ raised old.source.taken now.lines.taken
+  pub unended : now.lines.ended ≡ false → 0 < now.lines.taken → now.source.ended ≡ false
+  pub ended : now.lines.ended ≡ true → (now.source.ended ≡ true) × IsAtEnd now.source.left
+  pub so_read : (bytes : List ℕ) → old.source.left ≡ Some bytes → SoRead bytes now.lines now.source
+  pub later : NeverFalls (out old) (out now)
+  pub seen : (bytes before : List ℕ) (start : World) → old.source.left ≡ Some bytes → old.desk.sink.written ≡ Some before → IsAt Agrees mode old.desk start → SoFar (Acts next) Agrees next mode bytes before start now
+  pub unseen : (bytes before : List ℕ) (start : World) → old.source.left ≡ Some bytes → old.desk.sink.written ≡ Some before → IsAt Recalls mode old.desk start → SoFar (ActsUnseen next) Recalls next mode bytes before start now
+
+-- nothing was done yet
+none_yet : (acts : Event → Option Reply → State → State → Type 0) (stands : Device → FlashView → State → Type 0) (next : List ℕ → ℕ → ℕ) (mode : Mode) (old : Parts) → old.lines ≡ record { budget = 2 ^ 40; taken = 0; held = []; ended = false } → (bytes before : List ℕ) (start : World) → old.source.left ≡ Some bytes
+    → old.desk.sink.written ≡ Some before → IsAt stands mode old.desk start → SoFar acts stands next mode bytes before start old
+none_yet acts stands next mode old lines bytes before start left written is_at = record {
+  gone = [];
+  rest = bytes;
+  split = sym (ap (λ (l : LinesView). l.held ++ bytes) lines);
+  left = left;
+  steps = [];
+  done = record { answers = []; now = start; run = refl; is_at = is_at; written = written ∙ ap Some (sym (append-nil before)) };
+  place = inl (refl, refl);
+}
+
+-- before the first turn
+pub begins : (next : List ℕ → ℕ → ℕ) (mode : Mode) (old : Parts) → old.lines ≡ record { budget = 2 ^ 40; taken = 0; held = []; ended = false } → Going next mode old old
+begins next mode old lines = record {
+  budget = ap (λ (l : LinesView). l.budget) lines;
+  most = omega (arith, ap (λ (l : LinesView). l.budget) lines, ap (λ (l : LinesView). l.taken) lines);
+  taken = omega (arith, ap (λ (l : LinesView). l.taken) lines);
+  unended = λ e some. absurd (omega (arith, some, ap (λ (l : LinesView). l.taken) lines));
+  ended = λ e. absurd (let both : false ≡ true = sym (ap (λ (l : LinesView). l.ended) lines) ∙ e in cc);
+  so_read = λ bytes left. record { taken = []; rest = bytes; split = refl; left = left; counted = sym (ap (λ (l : LinesView). l.taken) lines) };
+  later = record { source_count = omega arith; sink_count = omega arith; keeper_count = omega arith; flash_count = omega arith };
+  seen = none_yet (Acts next) Agrees next mode old lines;
+  unseen = none_yet (ActsUnseen next) Recalls next mode old lines;
+}
+
+module _ (next : List ℕ → ℕ → ℕ) (mode : Mode) (first old new : Parts) (going : Going next mode first old) (came : List ℕ) (counts : Came came old.lines new.lines old.source new.source)
+    (sink : old.desk.sink.faults ≤ new.desk.sink.faults) (keeper : old.desk.keeper.faults ≤ new.desk.keeper.faults) (flash : old.desk.flash.faults ≤ new.desk.flash.faults) where
+  taken_by : new.source.taken ≡ raised first.source.taken new.lines.taken
+  taken_by = counts.taken ∙ ap (λ n. raised n (length came)) going.taken ∙ raised-raised first.source.taken old.lines.taken (length came) ∙ ap (raised first.source.taken) (sym counts.counted)
+
+  still_unended : old.lines.ended ≡ false → new.lines.ended ≡ false → 0 < new.lines.taken → (length came ≡ 0) ⊎ (length came ≢ 0) → new.source.ended ≡ false
+  still_unended was un some (inl none) = counts.same un none ∙ going.unended was (omega (arith, some, counts.counted, none))
+  still_unended was un some (inr more) = counts.unended un more
+
+  not_yet : (was : Bool) → old.lines.ended ≡ was → new.lines.ended ≡ false → old.lines.ended ≡ false
+  not_yet true e un = absurd (let both : true ≡ false = sym (counts.once e) ∙ un in cc)
+  not_yet false e un = e
+
+  pub unended_now : new.lines.ended ≡ false → 0 < new.lines.taken → new.source.ended ≡ false
+  unended_now un some = still_unended (not_yet old.lines.ended refl un) un some (cases_eq (length came) 0)
+
+  told_by : (was : Bool) → old.lines.ended ≡ was → new.lines.ended ≡ true → (new.source.ended ≡ true) × IsAtEnd new.source.left
+  told_by false e told = counts.told e told
+  told_by true e told = subst (λ (s : SourceView). (s.ended ≡ true) × IsAtEnd s.left) (sym (counts.unread e)) (going.ended e)
+
+  -- the bytes read up to now
+  read_now : (bytes : List ℕ) → first.source.left ≡ Some bytes → SoRead bytes new.lines new.source
+  read_now bytes left =
+      let was = going.so_read bytes left in
+      let more = next_left new.source.left was.rest came (sym was.left ∙ counts.left) in
+      record {
+        taken = was.taken ++ came;
+        rest = more.0;
+        split = was.split ∙ ap (λ l. was.taken ++ l) more.2 ∙ sym (append_assoc was.taken came more.0);
+        left = more.1;
+        counted = length-append was.taken came ∙ ap (λ n. n + length came) was.counted ∙ sym counts.counted;
+      }
+
+  pub later_now : NeverFalls (out first) (out new)
+  later_now = record {
+    source_count = omega (arith, going.later.source_count, counts.later);
+    sink_count = omega (arith, going.later.sink_count, sink);
+    keeper_count = omega (arith, going.later.keeper_count, keeper);
+    flash_count = omega (arith, going.later.flash_count, flash);
+  }
+
+  -- a turn that goes on
+  pub keeps_going : Turns next mode None came old new → Going next mode first new
+  keeps_going turns = record {
+    budget = counts.budget ∙ going.budget;
+    most = counts.most;
+    taken = taken_by;
+    unended = unended_now;
+    ended = told_by old.lines.ended refl;
+    so_read = read_now;
+    later = later_now;
+    seen = λ bytes before start left written is_at.
+        went_on (Acts next) Agrees next mode bytes before start old new (going.seen bytes before start left written is_at) came counts turns.line turns.is_line turns.works.seen;
+    unseen = λ bytes before start left written is_at.
+        went_on (ActsUnseen next) Recalls next mode bytes before start old new (going.unseen bytes before start left written is_at) came counts turns.line turns.is_line turns.works.unseen;
+  }
+
+  pub told_now : new.lines.ended ≡ true → new.source.ended ≡ true
+  told_now told = (told_by old.lines.ended refl told).0
+
+  -- who is to blame where the run ends
+  pub causes : (result : Status) → Turns next mode (Some result) came old new → Causes result (out first) (out new)
+  causes status.Ok turns = tt
+  causes status.Usage turns = tt
+  causes status.Read turns = omega (arith, turns.3, going.later.source_count)
+  causes status.Write turns = omega (arith, turns.1, going.later.sink_count)
+  causes status.Keep turns = omega (arith, turns.1, going.later.keeper_count)
+  causes status.Memory turns = tt
+  causes status.Long turns = tt
+
+  -- where it ends well, the source has told its end
+  pub told_end : (result : Status) → Turns next mode (Some result) came old new → result ≡ status.Ok → new.source.ended ≡ true
+  told_end status.Ok turns is = told_now turns.2
+  told_end _ turns is = cc
+
+  forty : new.lines.budget ≡ 2 ^ 40
+  forty = counts.budget ∙ going.budget
+
+  full_only : new.lines.taken ≡ new.lines.budget → new.lines.ended ≡ false → (new.source.ended ≡ false) × (new.source.taken ≡ raised first.source.taken (2 ^ 40))
+  full_only full un = (unended_now un (omega (arith, full, forty)), taken_by ∙ ap (raised first.source.taken) (full ∙ forty))
+
+  not_full : new.lines.taken < new.lines.budget → new.source.taken ≡ raised first.source.taken (2 ^ 40) → new.source.taken < 2 ^ 64 - 1 → ⊥
+  not_full less all small = short first.source.taken new.lines.taken new.source.taken (omega (arith, less, forty)) taken_by all small
+    where
+      short : (count taken now : ℕ) → taken < 2 ^ 40 → now ≡ raised count taken → now ≡ raised count (2 ^ 40) → now < 2 ^ 64 - 1 → ⊥
+      short count taken now less is all small = omega (arith, less, is, all, small)
+
+  pub is_long : (result : Status) → Turns next mode (Some result) came old new → IsLong result first.source new.source
+  is_long status.Ok turns = record {
+    only = λ e. cc;
+    always = λ un all small other. absurd (let both : true ≡ false = sym (told_now turns.2) ∙ un in cc);
+  }
+  is_long status.Usage turns = absurd turns
+  is_long status.Read turns = record { only = λ e. cc; always = λ un all small other. absurd (not_full turns.1 all small) }
+  is_long status.Write turns = record { only = λ e. cc; always = λ un all small other. absurd (other tt) }
+  is_long status.Keep turns = record { only = λ e. cc; always = λ un all small other. absurd (other tt) }
+  is_long status.Memory turns = record { only = λ e. cc; always = λ un all small other. absurd (other tt) }
+  is_long status.Long turns = record { only = λ e. full_only turns.1 turns.2; always = λ un all small other. refl }
+
+  -- what was read where the run ends
+  at_most : new.lines.taken ≤ 2 ^ 40
+  at_most = omega (arith, counts.most, forty)
+
+  all_read : (rest : List ℕ) → new.lines.ended ≡ true → new.source.left ≡ Some rest → rest ≡ []
+  all_read rest ended left = none_left new.source.left rest (told_by old.lines.ended refl ended).1 left
+
+  by_status : (result : Status) → Turns next mode (Some result) came old new → (bytes : List ℕ) → SoRead bytes new.lines new.source → Reads result bytes new.source
+  by_status status.Ok turns bytes was = reads_of status.Ok bytes new.lines new.source at_most was (λ e. all_read was.rest turns.2 was.left) (λ e. cc)
+  by_status status.Usage turns bytes was = absurd turns
+  by_status status.Long turns bytes was = reads_of status.Long bytes new.lines new.source at_most was (λ e. cc) (λ e. was.counted ∙ turns.1 ∙ forty)
+  by_status status.Read turns bytes was = reads_of status.Read bytes new.lines new.source at_most was (λ e. cc) (λ e. cc)
+  by_status status.Write turns bytes was = reads_of status.Write bytes new.lines new.source at_most was (λ e. cc) (λ e. cc)
+  by_status status.Keep turns bytes was = reads_of status.Keep bytes new.lines new.source at_most was (λ e. cc) (λ e. cc)
+  by_status status.Memory turns bytes was = reads_of status.Memory bytes new.lines new.source at_most was (λ e. cc) (λ e. cc)
+
+  pub reads : (result : Status) → Turns next mode (Some result) came old new → (bytes : List ℕ) → first.source.left ≡ Some bytes → Reads result bytes new.source
+  reads result turns bytes left = by_status result turns bytes (read_now bytes left)
+
+  -- what became of the whole run
+  whole : (acts : Event → Option Reply → State → State → Type 0) (stands : Device → FlashView → State → Type 0) → ((event : Event) (reply : Option Reply) (old new : State) → acts event reply old new → old.faults ≤ new.faults)
+      → ((event : Event) (old new : State) → acts event (Some Down) old new → Rose old.faults new.faults) → ((device : Device) (flash : FlashView) (state : State) → stands device flash state → state.faults ≡ flash.faults)
+      → (mode ≡ mode_is.Serve → new.desk.flash ≡ first.desk.flash) → (result : Status) (bytes before : List ℕ) (start : World) → start.device.faults ≡ first.desk.flash.faults
+      → (ends : Ended acts stands next mode result bytes before start new) → (ran : Ran acts next mode result bytes before start (out new)) × IsRan acts stands next mode result bytes before start new ends ran
+  whole acts stands later rose counted same result bytes before start begun ends =
+      let stays = same_device next mode result new.source.ended ends.taken ends.steps ends.reached ends.world ends.ends in
+      let sides = aside acts next mode result new.source.ended ends.taken ends.steps ends.answers start ends.reached ends.world ends.run ends.ends stays in
+      let count : new.desk.flash.faults ≡ ends.reached.device.faults =
+      sym (count_now mode start ends.world new.desk.flash first.desk.flash (λ uses. counted new.desk.device new.desk.flash ends.world.device (ends.is_at.device uses)) sides same begun) ∙ ap (λ (s : State). s.faults) stays in
+      let counts = rises_by acts later rose next start ends.reached ends.steps ends.answers ends.run in (
+        record {
+          taken = ends.taken;
+          rest = ends.rest;
+          split = ends.split;
+          left = ends.left;
+          steps = ends.steps;
+          answers = ends.answers;
+          reached = ends.reached;
+          run = ends.run;
+          now = ends.world;
+          ends = ends.ends;
+          written = ends.written;
+          aside = sides;
+          counts = counts.0;
+          rises = subst (λ (n : ℕ). RisesAtDowns start.device.faults ends.answers counts.0 n) (sym count) counts.1;
+          no_down = λ still small. no_down_by acts later rose next start ends.reached ends.steps ends.answers ends.run (sym count ∙ still) small;
+          few_downs = λ small. subst (λ (n : ℕ). start.device.faults + downs ends.answers ≤ n) (sym count)
+              (few_downs_by acts later rose next start ends.reached ends.steps ends.answers ends.run (subst (λ (n : ℕ). n < 2 ^ 64 - 1) count small));
+        },
+        record { is_at = ends.is_at },
+      )
+
+  pub run_of : (below : StaysBelow next) (same : mode ≡ mode_is.Serve → new.desk.flash ≡ first.desk.flash) (result : Status) → Turns next mode (Some result) came old new
+      → (bytes before : List ℕ) (start : World) → first.source.left ≡ Some bytes → first.desk.sink.written ≡ Some before → start.device.faults ≡ first.desk.flash.faults
+      → IsAt Agrees mode first.desk start → RunOf next mode result bytes before start (out new)
+  run_of below same result turns bytes before start left written begun is_at =
+      let ends = run_ends (Acts next) Agrees next mode bytes before start old new (going.seen bytes before start left written is_at) came counts (λ steps result works. works.seen) told_now result turns in
+      let ran = whole (Acts next) Agrees (acts_later next) (acts_rose next) (λ device flash state agrees. agrees.stand.faults) same result bytes before start begun ends in
+      record {
+        ran = ran.0;
+        agree = agree_at mode new.desk ran.0.now ran.1.is_at;
+        stand = stand next below mode result new.source.ended ran.0.taken ran.0.steps ran.0.answers start ran.0.reached ran.0.now ran.0.run ran.0.ends;
+        promise = promise next below mode result new.source.ended ran.0.taken ran.0.steps ran.0.answers start ran.0.reached ran.0.now ran.0.run ran.0.ends;
+      }
+
+  pub run_unseen : (same : mode ≡ mode_is.Serve → new.desk.flash ≡ first.desk.flash) (result : Status) → Turns next mode (Some result) came old new
+      → (bytes before : List ℕ) (start : World) → first.source.left ≡ Some bytes → first.desk.sink.written ≡ Some before → start.device.faults ≡ first.desk.flash.faults
+      → IsAt Recalls mode first.desk start → RunUnseen next mode result bytes before start (out new)
+  run_unseen same result turns bytes before start left written begun is_at =
+      let ends = run_ends (ActsUnseen next) Recalls next mode bytes before start old new (going.unseen bytes before start left written is_at) came counts (λ steps result works. works.unseen) told_now result turns in
+      let ran = whole (ActsUnseen next) Recalls (unseen_later next) (unseen_rose next) (λ device flash state recalls. recalls.faults_are) same result bytes before start begun ends in
+      record { ran = ran.0; tables = ran.1.is_at.tables }
+
+-- What is promised of a whole run, where it ends with this status.
+pub record Promised (next : List ℕ → ℕ → ℕ) (mode : Mode) (result : Status) (first new : Parts) : Type 0 where
+  pub usage : result ≢ status.Usage
+  pub device : mode ≡ mode_is.Device → (result ≢ status.Keep) × (result ≢ status.Memory)
+  pub later : NeverFalls (out first) (out new)
+  pub told : result ≡ status.Ok → new.source.ended ≡ true
+  pub causes : Causes result (out first) (out new)
+  pub long : IsLong result first.source new.source
+  pub read : (bytes : List ℕ) → first.source.left ≡ Some bytes → Reads result bytes new.source
+  pub run : (bytes before : List ℕ) (start : World) → first.source.left ≡ Some bytes → first.desk.sink.written ≡ Some before → start.device.faults ≡ first.desk.flash.faults → IsAt Agrees mode first.desk start
+      → RunOf next mode result bytes before start (out new)
+  pub unseen : (bytes before : List ℕ) (start : World) → first.source.left ≡ Some bytes → first.desk.sink.written ≡ Some before → start.device.faults ≡ first.desk.flash.faults → IsAt Recalls mode first.desk start
+      → RunUnseen next mode result bytes before start (out new)
+
+not_usage : (next : List ℕ → ℕ → ℕ) (mode : Mode) (came : List ℕ) (old new : Parts) (result : Status) → Turns next mode (Some result) came old new → result ≢ status.Usage
+not_usage next mode came old new status.Usage turns = absurd turns
+not_usage next mode came old new _ turns = λ e. cc
+
+not_ledger : (next : List ℕ → ℕ → ℕ) (mode : Mode) (came : List ℕ) (old new : Parts) (result : Status) → Turns next mode (Some result) came old new → mode ≡ mode_is.Device → (result ≢ status.Keep) × (result ≢ status.Memory)
+not_ledger next mode came old new status.Keep turns is = absurd ((turns.0.ledger tt).0 is)
+not_ledger next mode came old new status.Memory turns is = absurd ((turns.ledger tt).0 is)
+not_ledger next mode came old new _ turns is = (λ e. cc, λ e. cc)
+
+pub ends : (next : List ℕ → ℕ → ℕ) (mode : Mode) (first old new : Parts) (result : Status) → Going next mode first old → Turned next mode (Some result) old new
+    → old.desk.sink.faults ≤ new.desk.sink.faults → old.desk.keeper.faults ≤ new.desk.keeper.faults → old.desk.flash.faults ≤ new.desk.flash.faults
+    → StaysBelow next → (mode ≡ mode_is.Serve → new.desk.flash ≡ first.desk.flash) → Promised next mode result first new
+ends next mode first old new result going turned sink keeper flash below same = record {
+  usage = not_usage next mode turned.came old new result turned.turns;
+  device = not_ledger next mode turned.came old new result turned.turns;
+  later = later_now next mode first old new going turned.came turned.counts sink keeper flash;
+  told = told_end next mode first old new going turned.came turned.counts sink keeper flash result turned.turns;
+  causes = causes next mode first old new going turned.came turned.counts sink keeper flash result turned.turns;
+  long = is_long next mode first old new going turned.came turned.counts sink keeper flash result turned.turns;
+  read = reads next mode first old new going turned.came turned.counts sink keeper flash result turned.turns;
+  run = run_of next mode first old new going turned.came turned.counts sink keeper flash below same result turned.turns;
+  unseen = run_unseen next mode first old new going turned.came turned.counts sink keeper flash same result turned.turns;
+}
+
+-- a turn that took a line brings the run nearer to its end
+nearer_line : (old new : LinesView) (came line : List ℕ) → new.taken ≡ old.taken + length came → new.budget ≡ old.budget → new.taken ≤ new.budget → IsLine (old.held ++ came) line new
+    → new.budget - new.taken + length new.held < old.budget - old.taken + length old.held
+nearer_line old new came line counted budget most (none, inl e) =
+    omega (arith, counted, budget, most, ap length e, length-append old.held came, length-append line (10 ∷ new.held))
+nearer_line old new came line counted budget most (none, inr (e, held, ended, some)) =
+    omega (arith, counted, budget, most, ap length e, ap length held, length-append old.held came, some_length line some)
+  where
+    some_length : (line : List ℕ) → line ≢ [] → 0 < length line
+    some_length [] some = absurd (some refl)
+    some_length (c ∷ cs) some = omega arith
+
+pub nearer : (next : List ℕ → ℕ → ℕ) (mode : Mode) (old new : Parts) (came : List ℕ) → Came came old.lines new.lines old.source new.source → Turns next mode None came old new
+    → new.lines.budget - new.lines.taken + length new.lines.held < old.lines.budget - old.lines.taken + length old.lines.held
+nearer next mode old new came counts turns = nearer_line old.lines new.lines came turns.line counts.counted counts.budget counts.most turns.is_line
+
+-- a device that isn't on found nothing that its flash would have to back
+unfound : (found : Option Recovered) (words : List ℕ) → is_some found ≡ false → IfSome found (λ found. recover words ≡ found)
+unfound None words off = tt
+unfound (Some found) words off = cc
+
+backed : (device : Device) (words : Option (List ℕ)) → is_on device ≡ false → IfSome words (Backs device.phase)
+backed device None off = tt
+backed device (Some words) off = unfound (found_by device.phase) words off
+
+pub off_holds : (device : Device) (flash : FlashView) → is_on device ≡ false → Holds device flash
+off_holds device flash off = record { up = λ on. absurd (let both : true ≡ false = sym on ∙ off in cc); words = backed device flash.words off }
+
+-- a device that is off, and on which nothing was typed, at the beginning
+pub begins_seen : (mode : Mode) (device : Device) (keeper : KeeperView) (flash : FlashView) (sink : SinkView) (tables : Tables) (stored : Stored) → is_on device ≡ false → device.pad ≡ kept_of no_keys
+    → Agree mode keeper flash (beginning tables stored flash.faults) → IsAt Agrees mode (desk device keeper flash sink) (beginning tables stored flash.faults)
+begins_seen mode device keeper flash sink tables stored off empty agree =
+    record { tables = agree.tables; device = λ uses. record { on_is = sym off; pad_is = empty; stand = agree.device uses } }
+
+-- it has nothing in memory
+nothing_fits : (found : Option Recovered) (stored : Stored) → is_some found ≡ false → IfSome found (λ found. StandsAs found stored)
+nothing_fits None stored off = tt
+nothing_fits (Some found) stored off = cc
+
+pub begins_unseen : (mode : Mode) (device : Device) (keeper : KeeperView) (flash : FlashView) (sink : SinkView) (tables : Tables) (stored : Stored) → is_on device ≡ false → device.pad ≡ kept_of no_keys
+    → (uses_keeper mode ≡ true → keeper.tables ≡ Some tables) → IsAt Recalls mode (desk device keeper flash sink) (beginning tables stored flash.faults)
+begins_unseen mode device keeper flash sink tables stored off empty told =
+    record { tables = told; device = λ uses. record { on_is = sym off; pad_is = empty; fits = nothing_fits (found_by device.phase) stored off; faults_are = refl } }

@@ -1,0 +1,13 @@
+-- The files that the words of the command line name.
+use Rattle.std.specs.Prelude.{ℕ, List, [], ◌∷◌, codes, if◌then◌else◌}
+use Rattle.std.specs.Str.{bytes_eq}
+
+-- The path of the database, and that of the flash, by the first word and one file: `device FLASH`, or another word and a database.
+abbrev pub paths_with : List ℕ → List ℕ → List ℕ × List ℕ
+paths_with word file = if bytes_eq word (codes "device") then ([], file) else (file, [])
+
+-- The same by all words: `bench DB FLASH` names both. What the words don't name has an empty path.
+abbrev pub paths_of : List (List ℕ) → List ℕ × List ℕ
+paths_of (word ∷ file ∷ []) = paths_with word file
+paths_of (word ∷ tables ∷ flash ∷ []) = (tables, flash)
+paths_of _ = ([], [])

@@ -1,0 +1,28 @@
+-- How a run ends.
+use Rattle.std.proofs.Common.{◌≡◌, ◌≢◌, ◌⊎◌, inl, inr, ℕ, Some, refl, arith}
+use Rattle.run_spec.specs.declared.Mode.{Mode}
+use Rattle.run_spec.specs.declared.Status.{Status}
+use Rattle.run_spec.specs.declared.Status.TheVariants as status
+use Rattle.paygo_spec.specs.Faults.{Rose}
+use Rattle.line_loop.specs.Runs.{Outside, Causes, IsCalm}
+use Rattle.paygo_cli.specs.declared.words.Work.{Work}
+use Rattle.paygo_cli.specs.declared.words.Work.TheVariants as work
+
+-- a count that rose isn't calm
+not_calm : (before now : ℕ) → Rose before now → IsCalm before now → ⊥
+not_calm before now rose calm = omega (arith, rose, calm.same, calm.small)
+
+-- where no count rose, no fault ended the run
+pub complete : (result : Status) (old new : Outside) → Causes result old new → result ≢ status.Usage → IsCalm old.source.faults new.source.faults → IsCalm old.sink.faults new.sink.faults → IsCalm old.keeper.faults new.keeper.faults
+    → (result ≡ status.Ok) ⊎ ((result ≡ status.Long) ⊎ (result ≡ status.Memory))
+complete status.Ok old new causes used source sink keeper = inl refl
+complete status.Usage old new causes used source sink keeper = absurd (used refl)
+complete status.Read old new causes used source sink keeper = absurd (not_calm old.source.faults new.source.faults causes source)
+complete status.Write old new causes used source sink keeper = absurd (not_calm old.sink.faults new.sink.faults causes sink)
+complete status.Keep old new causes used source sink keeper = absurd (not_calm old.keeper.faults new.keeper.faults causes keeper)
+complete status.Memory old new causes used source sink keeper = inr (inr refl)
+complete status.Long old new causes used source sink keeper = inr (inl refl)
+
+-- words that ask for lines ask for those of one mode
+pub same_mode : (asked : Work) (a b : Mode) → asked ≡ work.Lines a → Some asked ≡ Some (work.Lines b) → a ≡ b
+same_mode asked a b is same = cc

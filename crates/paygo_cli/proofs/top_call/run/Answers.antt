@@ -1,0 +1,32 @@
+use Rattle.std.proofs.Common.{◌∙◌, subst}
+use Rattle.run_spec.specs.declared.Mode.{Mode}
+use Rattle.line_loop.specs.Runs.{outside, RunsTold, RunsUnseen}
+use Rattle.paygo_cli.proofs.Ending.{complete, same_mode}
+use Rattle.paygo_cli.proofs.top_call.run.Goals as goal
+
+pub returns-in-Some-Lines-clause-run : goal.returns-in-Some-Lines-clause-run
+returns-in-Some-Lines-clause-run g c = λ mode is.
+    let old = outside (g.S.Source.view c.args.source.now) (g.K.Sink.view c.args.sink.now) (g.D.Keeper.view c.args.keeper.now) (g.F.Flash.view c.args.flash.now) in
+    let new = outside (g.S.Source.view c.run_lines.new.source) (g.K.Sink.view c.run_lines.new.sink) (g.D.Keeper.view c.run_lines.new.keeper) (g.F.Flash.view c.run_lines.new.flash) in
+    subst (λ (m : Mode). RunsTold g.M.Mixer.next m c.run_lines.result old new) (same_mode c.in-Some-Lines.field-0 c.in-Some-Lines.mode mode c.in-Some-Lines.field-0-is (c.in-Some-Lines.ensures.work ∙ is)) c.run_lines.ensures.run
+
+pub returns-in-Some-Lines-clause-unseen : goal.returns-in-Some-Lines-clause-unseen
+returns-in-Some-Lines-clause-unseen g c = λ mode is.
+    let old = outside (g.S.Source.view c.args.source.now) (g.K.Sink.view c.args.sink.now) (g.D.Keeper.view c.args.keeper.now) (g.F.Flash.view c.args.flash.now) in
+    let new = outside (g.S.Source.view c.run_lines.new.source) (g.K.Sink.view c.run_lines.new.sink) (g.D.Keeper.view c.run_lines.new.keeper) (g.F.Flash.view c.run_lines.new.flash) in
+    subst (λ (m : Mode). RunsUnseen g.M.Mixer.next m c.run_lines.result old new) (same_mode c.in-Some-Lines.field-0 c.in-Some-Lines.mode mode c.in-Some-Lines.field-0-is (c.in-Some-Lines.ensures.work ∙ is)) c.run_lines.ensures.unseen
+
+pub returns-in-Some-Audit-clause-complete : goal.returns-in-Some-Audit-clause-complete
+returns-in-Some-Audit-clause-complete g c =
+    let source = g.S.Source.view c.args.source.now in
+    let flash = g.F.Flash.view c.args.flash.now in
+    complete c.run_audit.result (outside source (g.K.Sink.view c.args.sink.now) (g.D.Keeper.view c.args.keeper.now) flash) (outside source (g.K.Sink.view c.run_audit.new.sink) (g.D.Keeper.view c.run_audit.new.keeper) flash)
+    (c.run_audit.ensures.causes source source flash flash)
+
+pub returns-in-Some-Fleet-clause-complete : goal.returns-in-Some-Fleet-clause-complete
+returns-in-Some-Fleet-clause-complete g c =
+    let source = g.S.Source.view c.args.source.now in
+    let keeper = g.D.Keeper.view c.args.keeper.now in
+    let flash = g.F.Flash.view c.args.flash.now in
+    complete c.run_simulation.result (outside source (g.K.Sink.view c.args.sink.now) keeper flash) (outside source (g.K.Sink.view c.run_simulation.new.sink) keeper flash)
+    (c.run_simulation.ensures.causes source source keeper keeper flash flash)
