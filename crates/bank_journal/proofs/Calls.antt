@@ -1,7 +1,7 @@
 -- How many calls of the flash were made.
 use Rattle.std.proofs.Common.{◌≡◌, ℕ, ◌+◌, ◌-◌, ◌<◌, ◌≤◌, Option, Some, None, true, arith, refl, ◌∙◌, sym, ap, subst}
-use Rattle.paygo_spec.specs.Flash.{FlashView}
-use Rattle.paygo_spec.specs.Calls.{DueAfter, DueWithin, Passed, Failed}
+use Rattle.paygo_spec.specs.Faults.{raised}
+use Rattle.paygo_spec.specs.Flash.{FlashView, DueAfter, DueWithin, Passed, Failed}
 
 pub after_none : (a : Option (Option ℕ)) → DueAfter 0 a a
 after_none None = refl
@@ -24,17 +24,16 @@ after_within m n k (Some (Some d)) b c q h =
 
 -- no call yet
 pub passed_none : (a : FlashView) → a.up ≡ true → Passed 0 a a
-passed_none a u = record { up = u; due = after_none a.due; later = omega arith }
+passed_none a u = record { up = u; due = after_none a.due; faults = refl }
 
 -- calls that passed after calls that passed
 pub passed_more : (m n k : ℕ) (a b c : FlashView) → k ≡ m + n → Passed m a b → Passed n b c → Passed k a c
-passed_more m n k a b c q x y = record { up = y.up; due = after_more m n k a.due b.due c.due q x.due y.due; later = omega (arith, x.later, y.later) }
+passed_more m n k a b c q x y = record { up = y.up; due = after_more m n k a.due b.due c.due q x.due y.due; faults = y.faults ∙ x.faults }
 
 -- a call that failed after calls that passed
 pub passed_failed : (m n k : ℕ) (a b c : FlashView) → m + n ≤ k → Passed m a b → Failed n b c → Failed k a c
 passed_failed m n k a b c q x y = record {
   down = y.down;
   due = after_within m n k a.due b.due c.due q x.due y.due;
-  later = omega (arith, x.later, y.later);
-  rose = let l = x.later in let r = y.rose in omega arith;
+  rose = y.rose ∙ ap (λ (n : ℕ). raised n 1) x.faults;
 }

@@ -1,8 +1,7 @@
 -- The bank in use, read from its head to its last entry.
 use Rattle.std.proofs.Common.{◌≡◌, ℕ, ◌+◌, ◌<◌, ◌==◌, if◌then◌else◌, List, slice_index, Option, Some, None, Ok, Err, Result, refl, arith, sym, ◌∙◌, ap, subst, ⊎_elim}
 use Rattle.std.proofs.lemmas.Bool.{cases_eq}
-use Rattle.paygo_spec.specs.Flash.{FlashView}
-use Rattle.paygo_spec.specs.Calls.{Passed}
+use Rattle.paygo_spec.specs.Flash.{FlashView, Passed}
 use Rattle.paygo_spec.specs.Rail.{number_in}
 use Rattle.paygo_spec.specs.Machine.{IsConfig}
 use Rattle.journal_laws.specs.Banks.{IsKeyBytes, KeepsRules}

@@ -1,7 +1,6 @@
 -- How calls of the flash add up where reading ends early.
 use Rattle.std.proofs.Common.{ℕ, ◌+◌, ◌≤◌, arith, refl}
-use Rattle.paygo_spec.specs.Flash.{FlashView}
-use Rattle.paygo_spec.specs.Calls.{Passed}
+use Rattle.paygo_spec.specs.Flash.{FlashView, Passed}
 use Rattle.bank_journal.specs.declared.journal.JournalFault.{JournalFault}
 use Rattle.bank_journal.specs.declared.journal.JournalFault.TheVariants as fault
 use Rattle.bank_journal.specs.Reading.{FaultCalls}

@@ -1,7 +1,6 @@
 -- How a bank is begun, and what that leaves of the flash wherever the power is cut.
 use Rattle.std.specs.Prelude.{◌≡◌, ℕ, List, Result, Ok, Err}
-use Rattle.paygo_spec.specs.Calls.{Passed, Failed}
-use Rattle.paygo_spec.specs.Flash.{FlashView}
+use Rattle.paygo_spec.specs.Flash.{Passed, Failed, FlashView}
 use Rattle.journal_laws.specs.Banks.{IsBegun, LeavesOther}
 use Rattle.bank_journal.specs.declared.journal.JournalFault.{JournalFault}
 use Rattle.bank_journal.specs.declared.journal.JournalFault.TheVariants as fault

@@ -1,7 +1,6 @@
 -- What the calls of a journal answer, and how many calls of the flash they make.
 use Rattle.std.specs.Prelude.{◌≡◌, ℕ, ◌≤◌, List, Some, None, Result, Ok, Err}
-use Rattle.paygo_spec.specs.Flash.{FlashView}
-use Rattle.paygo_spec.specs.Calls.{Passed, Failed}
+use Rattle.paygo_spec.specs.Flash.{FlashView, Passed, Failed}
 use Rattle.paygo_spec.specs.Layout.{Position, calls_of_entry}
 use Rattle.paygo_spec.specs.Recovery.{JournalView, Recovered, Unmade, Damaged, Made, word_at, number_at, newest_bank}
 use Rattle.bank_journal.specs.declared.journal.JournalFault.{JournalFault}
@@ -23,13 +22,15 @@ LoadCalls (Err (fault.Damaged place)) old new = (calls : ℕ) × (calls ≤ 513)
 LoadCalls (Err fault.Flash) old new = Failed 513 old new
 LoadCalls (Err _) old new = ⊥
 
--- `make` answers by the two headers, unless the flash failed: the place of the damage, or the number of the bank in use, or
--- that the device is made.
+-- `make` answers by the two headers, unless the flash failed: the place of the damage, or the number of the bank in use,
+-- or that the device is made.
 abbrev pub MakesAs : List ℕ → Result JournalView JournalFault → Type 0
 MakesAs words (Ok journal) = newest_bank (word_at words 0 0) (word_at words 1 0) ≡ Ok None
 MakesAs words (Err (fault.Damaged place)) = newest_bank (word_at words 0 0) (word_at words 1 0) ≡ Err place
 MakesAs words (Err (fault.Made number)) =
-    (bank : ℕ) × (newest_bank (word_at words 0 0) (word_at words 1 0) ≡ Ok (Some bank)) × (number ≡ number_at words bank 0)
+    (bank : ℕ)
+    × (newest_bank (word_at words 0 0) (word_at words 1 0) ≡ Ok (Some bank))
+    × (number ≡ number_at words bank 0)
 MakesAs words (Err fault.Flash) = Unit {0}
 MakesAs words (Err _) = ⊥
 

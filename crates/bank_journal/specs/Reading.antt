@@ -1,10 +1,9 @@
 -- How a journal is read.
 use Rattle.std.specs.Prelude.{◌≡◌, ℕ, ◌+◌, ◌*◌, ◌≤◌, ◌<◌, true, false, List, slice_index, Some, None, Result, Ok, Err}
-use Rattle.paygo_spec.specs.Flash.{FlashView}
+use Rattle.paygo_spec.specs.Flash.{FlashView, Passed, Failed}
 use Rattle.paygo_spec.specs.Rail.{is_railed, number_in}
 use Rattle.paygo_spec.specs.Least.{least}
 use Rattle.paygo_spec.specs.History.{Summary as SummaryOf}
-use Rattle.paygo_spec.specs.Calls.{Passed, Failed}
 use Rattle.paygo_spec.specs.Recovery.{number_at, is_damaged, summary_after, used}
 use Rattle.bank_journal.specs.declared.journal.JournalFault.{JournalFault}
 use Rattle.bank_journal.specs.declared.journal.JournalFault.TheVariants as fault
@@ -35,7 +34,8 @@ abbrev pub HeadAs : List ℕ → ℕ → Result (List ℕ) JournalFault → Type
 HeadAs words bank (Ok numbers) =
     (least (is_damaged words bank) 12 ≡ None)
     × ((place : ℕ) → 1 ≤ place → place < 12 → number_at words bank place ≡ slice_index numbers place)
-HeadAs words bank (Err (fault.Damaged at)) = (place : ℕ) × (at ≡ 512 * bank + place) × (least (is_damaged words bank) 12 ≡ Some place)
+HeadAs words bank (Err (fault.Damaged at)) =
+    (place : ℕ) × (at ≡ 512 * bank + place) × (least (is_damaged words bank) 12 ≡ Some place)
 HeadAs words bank (Err fault.Flash) = Unit {0}
 HeadAs words bank (Err _) = ⊥
 
@@ -45,8 +45,8 @@ TakenAs after (Ok summary) = after ≡ Ok (summary_of summary)
 TakenAs after (Err (fault.Damaged place)) = after ≡ Err place
 TakenAs after (Err _) = ⊥
 
--- What is read of the entries of a bank that begins with the summary `start`: the summary after them and the place of the
--- next one, or else the first damaged word.
+-- What is read of the entries of a bank that begins with the summary `start`: the summary after them and the place of
+-- the next one, or else the first damaged word.
 abbrev pub EntriesAs : List ℕ → ℕ → ℕ → SummaryOf → Result (Summary × ℕ) JournalFault → Type 0
 EntriesAs words bank unit start (Ok read) =
     (summary_after words bank unit start 500 ≡ Ok (summary_of read.0)) × (12 + used words bank 500 ≡ read.1)

@@ -1,5 +1,5 @@
 // A journal in memory.
-use crate::read_entries::ENTRIES;
+use crate::reading::ENTRIES;
 use crate::summary::Summary;
 use paygo_outside::BANK;
 use paygo_spec::{Config, Form};

@@ -3,25 +3,18 @@
 // stands for the history as it was, or with the entry.
 #![tactic(auto)]
 
-mod append;
-mod begin;
-mod entry;
 mod head;
-mod headers;
 mod journal;
-mod loading;
-mod making;
-mod read_entries;
-mod read_entry;
-mod read_head;
+mod reading;
 mod summary;
 mod words;
+mod writing;
 
 pub use journal::{Journal, JournalFault};
-pub use loading::load;
-pub use making::make;
 pub use paygo_spec::{Config, Entry};
+pub use reading::load;
 pub use summary::Summary;
+pub use writing::make;
 
 #[cfg(test)]
 mod tests;

@@ -32,8 +32,10 @@ pub(crate) fn write_number<F: Flash>(
     requires within { at < 1024 }
     requires erased { IfSome (F.view flash.old).words (λ words. slice_index words at ≡ erased_word) }
     requires up { (F.view flash.old).up ≡ true }
-    ensures written { OnOk result ((F.view flash.new).words ≡ option_map (λ words. slice_set words at (railed number)) (F.view flash.old).words) }
-    ensures torn { OnErr result (Becomes (TornProgram at (railed number)) (F.view flash.old).words (F.view flash.new).words) }
+    ensures written { OnOk result ((F.view flash.new).words ≡ option_map (λ words. slice_set words at (railed number))
+        (F.view flash.old).words) }
+    ensures torn { OnErr result (Becomes (TornProgram at (railed number))
+        (F.view flash.old).words (F.view flash.new).words) }
     ensures calls { CallsBy 1 result (F.view flash.old) (F.view flash.new) }
 {
     match flash.program(at, rail(number)) {

@@ -11,7 +11,7 @@ use Rattle.paygo_spec.specs.declared.Reply.{Reply}
 use Rattle.paygo_spec.specs.declared.Reply.TheVariants.{Down}
 use Rattle.paygo_spec.specs.Flash.{FlashView}
 use Rattle.paygo_spec.specs.Streams.{SinkView}
-use Rattle.paygo_spec.specs.Machine.{State, IsEvent, Acts}
+use Rattle.paygo_spec.specs.Machine.{State, IsEvent, Acts, FaultsBy}
 use Rattle.ledger_spec.specs.declared.Answer.{Answer as LedgerAnswer}
 use Rattle.ledger_spec.specs.declared.Command.{Command}
 use Rattle.ledger_spec.specs.declared.LedgerFault.TheVariants as ledger_fault
@@ -154,11 +154,11 @@ module _ (acts : Event → Option Reply → State → State → Type 0) (stands 
 
 module _ (next : List ℕ → ℕ → ℕ) where
   pub told : (event : Event) (reply : Option Reply) (result : Result (Unit {0}) WriteFault) (old new : Device) (was now : FlashView) (before after : SinkView)
-      → IsEvent event → Does next event old was reply new now → Remembers next event old was reply new now → was.faults ≤ now.faults → (reply ≡ Some Down → IsDown old was new now)
+      → IsEvent event → Does next event old was reply new now → Remembers next event old was reply new now → FaultsBy reply was.faults now.faults → (reply ≡ Some Down → IsDown new)
       → Wrote (line_of (option_map Told reply)) result before after → DeviceWorks next (Act event ∷ []) result old was before new now after
-  told event reply result old new was now before after is does remembers later down wrote mode keeper uses = record {
+  told event reply result old new was now before after is does remembers counted down wrote mode keeper uses = record {
     seen = told_by (Acts next) Agrees next mode keeper event reply result old new was now before after uses is does wrote;
-    unseen = told_by (ActsUnseen next) Recalls next mode keeper event reply result old new was now before after uses is (remembered next event old new was now reply remembers later down) wrote;
+    unseen = told_by (ActsUnseen next) Recalls next mode keeper event reply result old new was now before after uses is (remembered next event old new was now reply remembers counted down) wrote;
   }
 
   pub said : (words : List ℕ) (result : Result (Unit {0}) WriteFault) (before after : SinkView) → Wrote (line_of (Some (Said words))) result before after → Says next (Say words ∷ []) result before after

@@ -4,12 +4,13 @@ use Rattle.std.proofs.lemmas.List.{take_all, nil_from_length, length-take}
 use Rattle.std.proofs.lemmas.Bool.{cases_lt, cases_eq}
 use Rattle.std.proofs.lemmas.Bool.Decides.{nat_tests}
 use Rattle.std.specs.Io.KnownBytes.{prepend_known}
-use Rattle.paygo_spec.specs.Streams.{SourceView, raised}
+use Rattle.paygo_spec.specs.Streams.{SourceView}
+use Rattle.paygo_spec.specs.Faults.{raised, Rose}
 use Rattle.run_spec.specs.Lines.{whole_lines}
-use Rattle.bench_run.specs.declared.lines.Next.TheVariants.{End}
+use Rattle.bench_run.specs.declared.lines.Next.TheVariants.{Line, Long, End}
 use Rattle.bench_run.specs.declared.lines.LinesFault.{LinesFault}
 use Rattle.bench_run.specs.declared.lines.LinesFault.TheVariants as fault
-use Rattle.bench_run.specs.Reader.{LinesView, Came, IsLine, Answers, Hands}
+use Rattle.bench_run.specs.Reader.{LinesView, Came, IsLine, HandsOut, ReadsBy, Hands}
 use Rattle.bench_run.specs.Gather.{handed_of, IsFront, IsPiece, Fills}
 use Rattle.bench_run.proofs.Cuts.{none-append, none-front}
 
@@ -23,6 +24,7 @@ pub record Gathered (old self : LinesView) (was now : SourceView) (buffer : List
   pub unended : whole_lines text ≡ []
   pub front : IsFront buffer text size
   pub needed : (now ≡ was) ⊎ (whole_lines old.held ≡ [])
+  pub faults : now.faults ≡ was.faults
   pub fits : length old.held ≤ old.taken
   pub small : old.budget < 2 ^ 64
 
@@ -45,7 +47,6 @@ came_two a b old mid new was now after un first second = record {
   taken = second.taken ∙ ap (λ c. raised c (length b)) first.taken ∙ raised-raised was.taken (length a) (length b) ∙ ap (raised was.taken) (sym (length-append a b));
   budget = second.budget ∙ first.budget;
   most = second.most;
-  later = omega (arith, first.later, second.later);
   unread = λ e. absurd (let both : true ≡ false = sym (first.once e) ∙ un in cc);
   quiet = λ e. absurd (let both : true ≡ false = sym (first.once e) ∙ un in cc);
   once = λ e. second.once (first.once e);
@@ -61,7 +62,6 @@ came_same a old self new was now b t e came = record {
   taken = came.taken;
   budget = b ∙ came.budget;
   most = omega (arith, b, t, came.most);
-  later = came.later;
   unread = came.unread;
   quiet = came.quiet;
   once = λ h. e ∙ came.once h;
@@ -71,19 +71,32 @@ came_same a old self new was now b t e came = record {
 }
 
 -- a line of this length, as it is handed out
-handed_line : (size : ℕ) (bytes buffer text : List ℕ) (new : LinesView) (was now : SourceView) → IsFront buffer text size → size ≤ length bytes → IsLine bytes text new
-    → (size ≤ 4096) ⊎ (4096 < size) → Answers (Ok (handed_of size)) bytes buffer new was now
-handed_line size bytes buffer text new was now front fits line (inl short) =
+handed_line : (size : ℕ) (bytes buffer text : List ℕ) (new : LinesView) → IsFront buffer text size → size ≤ length bytes → IsLine bytes text new
+    → (size ≤ 4096) ⊎ (4096 < size) → HandsOut (Ok (handed_of size)) bytes buffer new
+handed_line size bytes buffer text new front fits line (inl short) =
     let test : nat_le size 4096 ≡ true = grind (arith, nat_tests) in
     let same : take size buffer ≡ text = front.same ∙ take_all 4096 text (omega (arith, short, front.size_is)) in
     rw test (short, fits, rw same line)
-handed_line size bytes buffer text new was now front fits line (inr long) =
+handed_line size bytes buffer text new front fits line (inr long) =
     let test : nat_le size 4096 ≡ false = grind (arith, nat_tests) in
     rw test (text, sym front.size_is, long, line)
 
 le_or : (n k : ℕ) → (n < suc k) ⊎ (suc k ≤ n) → (n ≤ k) ⊎ (k < n)
 le_or n k (inl h) = inl (omega (arith, h))
 le_or n k (inr h) = inr (omega (arith, h))
+
+-- a line is handed out, or the end is told, where no read failed
+reads_well : (before now size : ℕ) → now ≡ before → ReadsBy (Ok (handed_of size)) before now
+reads_well before now size same = elim (nat_le size 4096) as (λ b. ReadsBy (Ok (if b then Line size else Long size)) before now) [
+  | true ↦ same
+  | false ↦ same
+]
+
+ends_well : (before now size : ℕ) → now ≡ before → ReadsBy (Ok (if size == 0 then End else handed_of size)) before now
+ends_well before now size same = elim (size == 0) as (λ b. ReadsBy (Ok (if b then End else handed_of size)) before now) [
+  | true ↦ same
+  | false ↦ reads_well before now size same
+]
 
 module _ (old self : LinesView) (was now : SourceView) (buffer : List ℕ) (size : ℕ) (so_far : Gathered old self was now buffer size) where
   -- a piece without an end goes on with the line
@@ -96,6 +109,7 @@ module _ (old self : LinesView) (was now : SourceView) (buffer : List ℕ) (size
     unended = none-append so_far.text piece.piece so_far.unended piece.unended;
     front = piece.front so_far.text so_far.front;
     needed = so_far.needed;
+    faults = so_far.faults;
     fits = so_far.fits;
     small = so_far.small;
   }
@@ -109,13 +123,14 @@ module _ (old self : LinesView) (was now : SourceView) (buffer : List ℕ) (size
       record {
         came = so_far.came;
         counts = came_same so_far.came old self new was now piece.budget piece.taken piece.ended so_far.counts;
-        answer = handed_line size' (old.held ++ so_far.came) buffer' text new was now front (omega (arith, ap length bytes, length-append text (10 ∷ new.held), front.size_is))
+        answer = handed_line size' (old.held ++ so_far.came) buffer' text new front (omega (arith, ap length bytes, length-append text (10 ∷ new.held), front.size_is))
             (none-append so_far.text piece.piece so_far.unended piece.unended, inl bytes) (le_or size' 4096 (cases_lt size' 4097));
+        faults = reads_well was.faults now.faults size' so_far.faults;
         needed = so_far.needed;
       }
 
   -- at the end of the input
-  ended_line : self.held ≡ [] → self.ended ≡ true → (size ≡ 0) ⊎ (size ≢ 0) → Answers (Ok (if size == 0 then End else handed_of size)) (old.held ++ so_far.came) buffer self was now
+  ended_line : self.held ≡ [] → self.ended ≡ true → (size ≡ 0) ⊎ (size ≢ 0) → HandsOut (Ok (if size == 0 then End else handed_of size)) (old.held ++ so_far.came) buffer self
   ended_line none end (inl zero_size) =
       let empty : so_far.text ≡ [] = nil_from_length so_far.text (sym so_far.front.size_is ∙ zero_size) in
       let test : (size == 0) ≡ true = grind (arith, nat_tests) in
@@ -123,7 +138,7 @@ module _ (old self : LinesView) (was now : SourceView) (buffer : List ℕ) (size
   ended_line none end (inr some) =
       let test : (size == 0) ≡ false = grind (arith, nat_tests) in
       let bytes : old.held ++ so_far.came ≡ so_far.text = so_far.bytes ∙ ap (λ l. so_far.text ++ l) none ∙ append-nil so_far.text in
-      rw test (handed_line size (old.held ++ so_far.came) buffer so_far.text self was now so_far.front (omega (arith, ap length bytes, so_far.front.size_is))
+      rw test (handed_line size (old.held ++ so_far.came) buffer so_far.text self so_far.front (omega (arith, ap length bytes, so_far.front.size_is))
       (so_far.unended, inr (bytes, none, end, λ e. some (so_far.front.size_is ∙ ap length e))) (le_or size 4096 (cases_lt size 4097)))
 
   pub at_end : self.held ≡ [] → self.ended ≡ true → Hands (Ok (if size == 0 then End else handed_of size)) buffer old self was now
@@ -131,6 +146,7 @@ module _ (old self : LinesView) (was now : SourceView) (buffer : List ℕ) (size
     came = so_far.came;
     counts = so_far.counts;
     answer = ended_line none end (cases_eq size 0);
+    faults = ends_well was.faults now.faults size so_far.faults;
     needed = so_far.needed;
   }
 
@@ -151,6 +167,7 @@ module _ (old self : LinesView) (was now : SourceView) (buffer : List ℕ) (size
         unended = so_far.unended;
         front = so_far.front;
         needed = inr (none_held none);
+        faults = fills.4 ∙ so_far.faults;
         fits = so_far.fits;
         small = so_far.small;
       }
@@ -165,7 +182,8 @@ module _ (old self : LinesView) (was now : SourceView) (buffer : List ℕ) (size
   not_filled fault.Read new after none un fills = record {
     came = so_far.came ++ [];
     counts = came_two so_far.came [] old self new was now after un so_far.counts fills.0;
-    answer = (no_line none [] refl, fills.2, fills.1, omega (arith, fills.3, so_far.counts.later));
+    answer = (no_line none [] refl, fills.2, fills.1);
+    faults = subst (λ (n : ℕ). Rose n after.faults) so_far.faults fills.3;
     needed = inr (none_held none);
   }
   not_filled fault.Budget new after none un fills =
@@ -174,6 +192,7 @@ module _ (old self : LinesView) (was now : SourceView) (buffer : List ℕ) (size
         came = so_far.came;
         counts = so_far.counts;
         answer = (ap (λ l. whole_lines (old.held ++ l)) (sym (append-nil so_far.came)) ∙ no_line none [] refl, fills.2, un);
+        faults = so_far.faults;
         needed = so_far.needed;
       })
 
@@ -188,7 +207,6 @@ begun old was buffer fits most small = record {
     taken = omega arith;
     budget = refl;
     most = most;
-    later = omega arith;
     unread = λ e. refl;
     quiet = λ e. refl;
     once = λ e. e;
@@ -200,6 +218,7 @@ begun old was buffer fits most small = record {
   unended = refl;
   front = record { size_is = refl; same = refl };
   needed = inl refl;
+  faults = refl;
   fits = fits;
   small = small;
 }

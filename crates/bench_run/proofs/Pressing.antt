@@ -10,7 +10,11 @@ use Rattle.run_spec.specs.DeviceLines.{is_key_text, are_key_text, presses}
 use Rattle.run_spec.specs.Run.{Step, Act}
 use Rattle.device_core.specs.declared.device.Device.{Device}
 use Rattle.paygo_outside.specs.declared.sink.WriteFault.{WriteFault}
-use Rattle.bench_run.specs.Bench.{DeviceWorks}
+use Rattle.device_core.specs.Memory.{Holds}
+use Rattle.bench_run.specs.Bench.{desk, DeviceWorks, DeviceDid}
+use Rattle.paygo_spec.specs.Faults.{Counted}
+use Rattle.paygo_spec.proofs.Plans.{plan_stays, plan_then}
+use Rattle.bench_run.proofs.Answering.{nothing}
 use Rattle.bench_run.proofs.Runs.{works_more, works_front}
 
 -- the keys of two texts
@@ -45,27 +49,46 @@ keys_behind text i within keys =
     let next : drop i text ≡ get_or text i 0 ∷ drop (i + 1) text = drop-cons text i 0 within ∙ ap (λ n. get_or text i 0 ∷ drop n text) (sym (add-one i)) in
     both (is_key_text (get_or text i 0)) (are_key_text (drop (i + 1) text)) (ap are_key_text (sym next) ∙ keys)
 
+-- no key is pressed yet
+pub none_pressed : (next : List ℕ → ℕ → ℕ) (device : Device) (flash : FlashView) (sink : SinkView) → Holds device flash → DeviceDid next [] (Ok tt) device flash sink device flash sink
+none_pressed next device flash sink holds = record {
+  holds = holds;
+  plan = plan_stays flash flash refl refl;
+  cause = refl;
+  works = λ mode keeper uses. nothing next mode (desk device keeper flash sink);
+}
+
 module _ (next : List ℕ → ℕ → ℕ) (text : List ℕ) (i : ℕ) (first old new : Device) (begun was now : FlashView) (empty sink after : SinkView) (within : i < length text)
-    (so_far : DeviceWorks next (pressed (take i text)) (Ok tt) first begun empty old was sink) where
+    (so_far : DeviceDid next (pressed (take i text)) (Ok tt) first begun empty old was sink) where
   -- what became of the keys up to one more
-  further : (result : Result (Unit {0}) WriteFault) → DeviceWorks next (pressed (get_or text i 0 ∷ [])) result old was sink new now after
-      → DeviceWorks next (pressed (take (i + 1) text)) result first begun empty new now after
-  further result works =
-      subst (λ (steps : List Step). DeviceWorks next steps result first begun empty new now after) (sym (pressed_more text i within))
-      (works_more next (pressed (take i text)) (pressed (get_or text i 0 ∷ [])) result first old new begun was now empty sink after so_far works)
+  further : (result : Result (Unit {0}) WriteFault) → DeviceDid next (pressed (get_or text i 0 ∷ [])) result old was sink new now after
+      → DeviceDid next (pressed (take (i + 1) text)) result first begun empty new now after
+  further result did = record {
+    holds = did.holds;
+    plan = plan_then begun was now so_far.plan did.plan;
+    cause = subst (λ (n : ℕ). Counted result n after.faults) so_far.cause did.cause;
+    works = subst (λ (steps : List Step). DeviceWorks next steps result first begun empty new now after) (sym (pressed_more text i within))
+        (works_more next (pressed (take i text)) (pressed (get_or text i 0 ∷ [])) result first old new begun was now empty sink after so_far.works did.works);
+  }
 
   -- one more key is done
-  pub one_more : DeviceWorks next (pressed (get_or text i 0 ∷ [])) (Ok tt) old was sink new now after → DeviceWorks next (pressed (take (i + 1) text)) (Ok tt) first begun empty new now after
-  one_more works = further (Ok tt) works
+  pub one_more : DeviceDid next (pressed (get_or text i 0 ∷ [])) (Ok tt) old was sink new now after → DeviceDid next (pressed (take (i + 1) text)) (Ok tt) first begun empty new now after
+  one_more did = further (Ok tt) did
 
   -- the sink failed at the answer to one more key, and the keys behind it aren't pressed
-  pub stopped_at : (fault : WriteFault) → DeviceWorks next (pressed (get_or text i 0 ∷ [])) (Err fault) old was sink new now after → DeviceWorks next (pressed text) (Err fault) first begun empty new now after
-  stopped_at fault works =
-      subst (λ (steps : List Step). DeviceWorks next steps (Err fault) first begun empty new now after) (sym (pressed_split text (i + 1)))
-      (works_front next (pressed (take (i + 1) text)) (pressed (drop (i + 1) text)) fault first new begun now empty after (further (Err fault) works))
+  pub stopped_at : (fault : WriteFault) → DeviceDid next (pressed (get_or text i 0 ∷ [])) (Err fault) old was sink new now after → DeviceDid next (pressed text) (Err fault) first begun empty new now after
+  stopped_at fault did =
+      let up_to = further (Err fault) did in
+      record {
+        holds = up_to.holds;
+        plan = up_to.plan;
+        cause = up_to.cause;
+        works = subst (λ (steps : List Step). DeviceWorks next steps (Err fault) first begun empty new now after) (sym (pressed_split text (i + 1)))
+            (works_front next (pressed (take (i + 1) text)) (pressed (drop (i + 1) text)) fault first new begun now empty after up_to.works);
+      }
 
 -- all keys are done
 pub all_pressed : (next : List ℕ → ℕ → ℕ) (text : List ℕ) (i : ℕ) (first old : Device) (begun was : FlashView) (empty sink : SinkView) → length text ≤ i
-    → DeviceWorks next (pressed (take i text)) (Ok tt) first begun empty old was sink → DeviceWorks next (pressed text) (Ok tt) first begun empty old was sink
-all_pressed next text i first old begun was empty sink all works =
-    subst (λ (keys : List ℕ). DeviceWorks next (pressed keys) (Ok tt) first begun empty old was sink) (take_all i text all) works
+    → DeviceDid next (pressed (take i text)) (Ok tt) first begun empty old was sink → DeviceDid next (pressed text) (Ok tt) first begun empty old was sink
+all_pressed next text i first old begun was empty sink all did =
+    subst (λ (keys : List ℕ). DeviceDid next (pressed keys) (Ok tt) first begun empty old was sink) (take_all i text all) did

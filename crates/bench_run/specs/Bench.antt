@@ -1,11 +1,11 @@
 -- What a bench does with steps: they are answered one after the other, and each answer is written before the next step is
 -- taken.
-use Rattle.std.specs.Prelude.{◌≡◌, ◌<◌, ◌≤◌, ℕ, List, ◌++◌, length, take, true, Option, Some, Result, Ok, Err}
+use Rattle.std.specs.Prelude.{◌≡◌, ◌<◌, ℕ, List, ◌++◌, length, take, true, Option, Some, Result, Ok, Err}
 use Rattle.std.specs.Io.KnownBytes.{append_known}
 use Rattle.paygo_spec.specs.declared.Event.{Event}
 use Rattle.paygo_spec.specs.declared.Reply.{Reply}
-use Rattle.paygo_spec.specs.Faults.{Rose}
-use Rattle.paygo_spec.specs.Flash.{FlashView}
+use Rattle.paygo_spec.specs.Faults.{Rose, Counted}
+use Rattle.paygo_spec.specs.Flash.{FlashView, KeepsPlan}
 use Rattle.paygo_spec.specs.Machine.{State, Acts}
 use Rattle.paygo_spec.specs.Streams.{SinkView}
 use Rattle.ledger_spec.specs.Keeper.{KeeperView}
@@ -15,7 +15,7 @@ use Rattle.run_spec.specs.Unseen.{ActsUnseen}
 use Rattle.run_spec.specs.Text.{text}
 use Rattle.run_spec.specs.Ran.{IsCut, MayChange, uses_keeper, uses_flash}
 use Rattle.device_core.specs.declared.device.Device.{Device}
-use Rattle.device_core.specs.Memory.{Agrees, Recalls}
+use Rattle.device_core.specs.Memory.{Agrees, Recalls, Holds}
 use Rattle.paygo_outside.specs.declared.sink.WriteFault.{WriteFault}
 use Rattle.bench_run.specs.declared.bench.LineFault.{LineFault}
 use Rattle.bench_run.specs.declared.bench.LineFault.TheVariants as fault
@@ -31,12 +31,14 @@ abbrev pub desk : Device → KeeperView → FlashView → SinkView → Desk
 desk device keeper flash sink = record { device = device; keeper = keeper; flash = flash; sink = sink }
 
 -- What a run in this mode uses of the desk stands for this world, where this says what device and flash stand for.
-pub record IsAt (stands : Device → FlashView → State → Type 0) (mode : Mode) (desk : Desk) (world : World) : Type 0 where
+pub record IsAt (stands : Device → FlashView → State → Type 0) (mode : Mode) (desk : Desk) (world : World)
+    : Type 0 where
   pub tables : uses_keeper mode ≡ true → desk.keeper.tables ≡ Some world.tables
   pub device : uses_flash mode ≡ true → stands desk.device desk.flash world.device
 
 -- These steps were answered, and the text of the answers was written whole. The desk stands for what the run went on to.
-pub record Done (acts : Event → Option Reply → State → State → Type 0) (stands : Device → FlashView → State → Type 0) (next : List ℕ → ℕ → ℕ) (mode : Mode) (steps : List Step) (start : World) (before : List ℕ) (desk : Desk)
+pub record Done (acts : Event → Option Reply → State → State → Type 0) (stands : Device → FlashView → State → Type 0)
+    (next : List ℕ → ℕ → ℕ) (mode : Mode) (steps : List Step) (start : World) (before : List ℕ) (desk : Desk)
     : Type 0 where
   pub answers : List (Option Answer)
   pub now : World
@@ -46,7 +48,8 @@ pub record Done (acts : Event → Option Reply → State → State → Type 0) (
 
 -- The sink failed at an answer: the first of these steps were taken, up to the one whose answer it was, and the others
 -- weren't.
-pub record Stopped (acts : Event → Option Reply → State → State → Type 0) (stands : Device → FlashView → State → Type 0) (next : List ℕ → ℕ → ℕ) (mode : Mode) (steps : List Step) (start : World) (before : List ℕ) (desk : Desk)
+pub record Stopped (acts : Event → Option Reply → State → State → Type 0) (stands : Device → FlashView → State → Type 0)
+    (next : List ℕ → ℕ → ℕ) (mode : Mode) (steps : List Step) (start : World) (before : List ℕ) (desk : Desk)
     : Type 0 where
   pub front : List Step
   pub others : List Step
@@ -58,31 +61,38 @@ pub record Stopped (acts : Event → Option Reply → State → State → Type 0
   pub cut : IsCut before answers desk.sink
 
 -- A command failed: nothing was written, and but for its change of the tables nothing was done.
-pub record Failed (stands : Device → FlashView → State → Type 0) (next : List ℕ → ℕ → ℕ) (mode : Mode) (steps : List Step) (start : World) (before : List ℕ) (desk : Desk) : Type 0 where
+pub record CommandFailed (stands : Device → FlashView → State → Type 0) (next : List ℕ → ℕ → ℕ) (mode : Mode)
+    (steps : List Step) (start : World) (before : List ℕ) (desk : Desk) : Type 0 where
   pub now : World
   pub change : MayChange next steps start now
   pub is_at : IsAt stands mode desk now
   pub written : desk.sink.written ≡ Some before
 
 -- There was no memory for a command: nothing was done.
-pub record Refused (stands : Device → FlashView → State → Type 0) (mode : Mode) (start : World) (before : List ℕ) (desk : Desk) : Type 0 where
+pub record CommandRefused (stands : Device → FlashView → State → Type 0) (mode : Mode) (start : World) (before : List ℕ)
+    (desk : Desk) : Type 0 where
   pub is_at : IsAt stands mode desk start
   pub written : desk.sink.written ≡ Some before
 
 -- What became of these steps: they are done, the sink failed at the answer to one of them, or a command failed.
-abbrev pub Ends : (Event → Option Reply → State → State → Type 0) → (Device → FlashView → State → Type 0) → (List ℕ → ℕ → ℕ) → Mode → List Step → Result (Unit {0}) LineFault → World → List ℕ → Desk → Type 0
+abbrev pub Ends : (Event → Option Reply → State → State → Type 0) → (Device → FlashView → State → Type 0)
+    → (List ℕ → ℕ → ℕ) → Mode → List Step → Result (Unit {0}) LineFault → World → List ℕ → Desk → Type 0
 Ends acts stands next mode steps (Ok done) start before desk = Done acts stands next mode steps start before desk
-Ends acts stands next mode steps (Err fault.Write) start before desk = Stopped acts stands next mode steps start before desk
-Ends acts stands next mode steps (Err fault.Keep) start before desk = Failed stands next mode steps start before desk
-Ends acts stands next mode steps (Err fault.Memory) start before desk = Refused stands mode start before desk
+Ends acts stands next mode steps (Err fault.Write) start before desk =
+    Stopped acts stands next mode steps start before desk
+Ends acts stands next mode steps (Err fault.Keep) start before desk = CommandFailed stands next mode steps start before desk
+Ends acts stands next mode steps (Err fault.Memory) start before desk = CommandRefused stands mode start before desk
 
 -- Whatever the desk stands for, and whatever was written before, that became of these steps.
-abbrev pub WorksBy : (Event → Option Reply → State → State → Type 0) → (Device → FlashView → State → Type 0) → (List ℕ → ℕ → ℕ) → Mode → List Step → Result (Unit {0}) LineFault → Desk → Desk → Type 0
+abbrev pub WorksBy : (Event → Option Reply → State → State → Type 0) → (Device → FlashView → State → Type 0)
+    → (List ℕ → ℕ → ℕ) → Mode → List Step → Result (Unit {0}) LineFault → Desk → Desk → Type 0
 WorksBy acts stands next mode steps result old new =
-    (start : World) (text : List ℕ) → IsAt stands mode old start → old.sink.written ≡ Some text → Ends acts stands next mode steps result start text new
+    (start : World) (text : List ℕ) → IsAt stands mode old start → old.sink.written ≡ Some text
+    → Ends acts stands next mode steps result start text new
 
 -- It did so by what the flash tells; and where that tells no words, by what the device has in memory.
-pub record Works (next : List ℕ → ℕ → ℕ) (mode : Mode) (steps : List Step) (result : Result (Unit {0}) LineFault) (old new : Desk) : Type 0 where
+pub record Works (next : List ℕ → ℕ → ℕ) (mode : Mode) (steps : List Step) (result : Result (Unit {0}) LineFault)
+    (old new : Desk) : Type 0 where
   pub seen : WorksBy (Acts next) Agrees next mode steps result old new
   pub unseen : WorksBy (ActsUnseen next) Recalls next mode steps result old new
 
@@ -92,26 +102,38 @@ of_line (Ok done) = Ok done
 of_line (Err failed) = Err fault.Write
 
 -- The same of steps that leave the keeper as it is, whatever it tells, in every mode that takes them.
-abbrev pub DeviceWorks : (List ℕ → ℕ → ℕ) → List Step → Result (Unit {0}) WriteFault → Device → FlashView → SinkView → Device → FlashView → SinkView → Type 0
+abbrev pub DeviceWorks : (List ℕ → ℕ → ℕ) → List Step → Result (Unit {0}) WriteFault → Device → FlashView
+    → SinkView → Device → FlashView → SinkView → Type 0
 DeviceWorks next steps result old was before new now after =
-    (mode : Mode) (keeper : KeeperView) → uses_flash mode ≡ true → Works next mode steps (of_line result) (desk old keeper was before) (desk new keeper now after)
+    (mode : Mode) (keeper : KeeperView) → uses_flash mode ≡ true
+    → Works next mode steps (of_line result) (desk old keeper was before) (desk new keeper now after)
+
+-- All that is said of steps of a device: it has its flash as it left it, no more failed there than was planned, the sink is to
+-- blame where an answer wasn't written, and that became of the steps.
+pub record DeviceDid (next : List ℕ → ℕ → ℕ) (steps : List Step) (result : Result (Unit {0}) WriteFault)
+    (old : Device) (was : FlashView) (before : SinkView) (new : Device) (now : FlashView) (after : SinkView) : Type 0 where
+  pub holds : Holds new now
+  pub plan : KeepsPlan was now
+  pub cause : Counted result before.faults after.faults
+  pub works : DeviceWorks next steps result old was before new now after
 
 -- A text is said, whatever device, keeper and flash are.
 abbrev pub Says : (List ℕ → ℕ → ℕ) → List Step → Result (Unit {0}) WriteFault → SinkView → SinkView → Type 0
 Says next steps result before after =
-    (mode : Mode) (device : Device) (keeper : KeeperView) (flash : FlashView) → Works next mode steps (of_line result) (desk device keeper flash before) (desk device keeper flash after)
+    (mode : Mode) (device : Device) (keeper : KeeperView) (flash : FlashView)
+    → Works next mode steps (of_line result) (desk device keeper flash before) (desk device keeper flash after)
 
 -- These bytes were written, or where the sink failed the first of them, fewer than all.
 abbrev pub Wrote : List ℕ → Result (Unit {0}) WriteFault → SinkView → SinkView → Type 0
 Wrote bytes (Ok done) old new = new.written ≡ append_known old.written bytes
 Wrote bytes (Err fault) old new = (n : ℕ) × (n < length bytes) × (new.written ≡ append_known old.written (take n bytes))
 
--- Who is to blame for a line that wasn't answered: the keeper, the sink, or want of memory. No count falls.
-pub record HasCauses (result : Result (Unit {0}) LineFault) (keeper keeper' sink sink' : ℕ) : Type 0 where
-  pub keeper_later : keeper ≤ keeper'
-  pub sink_later : sink ≤ sink'
-  pub keep : result ≡ Err fault.Keep → Rose keeper keeper'
-  pub write : result ≡ Err fault.Write → Rose sink sink'
+-- Who is to blame for a line that wasn't answered: the keeper at Keep and the sink at Write, each by one fault. Else neither
+-- had one.
+abbrev pub HasCauses : Result (Unit {0}) LineFault → (keeper keeper' sink sink' : ℕ) → Type 0
+HasCauses (Err fault.Keep) keeper keeper' sink sink' = Rose keeper keeper' × (sink' ≡ sink)
+HasCauses (Err fault.Write) keeper keeper' sink sink' = (keeper' ≡ keeper) × Rose sink sink'
+HasCauses result keeper keeper' sink sink' = (keeper' ≡ keeper) × (sink' ≡ sink)
 
 -- The line is one of the ledger that failed.
 abbrev pub IsLedgerFault : Result (Unit {0}) LineFault → Type 0

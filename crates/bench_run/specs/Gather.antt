@@ -35,6 +35,9 @@ pub record IsPiece (size : ℕ) (whole : Bool) (before : ℕ) (buffer buffer' : 
 
 -- A block was read; nothing was, at the end of the source; or nothing could be.
 abbrev pub Fills : Result (Unit {0}) LinesFault → LinesView → LinesView → SourceView → SourceView → Type 0
-Fills (Ok done) old new was now = (came : List ℕ) × Came came old new was now × (new.held ≡ came) × (new.ended ≡ (length came == 0))
-Fills (Err fault.Read) old new was now = Came [] old new was now × (new.ended ≡ false) × (new.taken < new.budget) × Rose was.faults now.faults
+Fills (Ok done) old new was now =
+    (came : List ℕ) × Came came old new was now × (new.held ≡ came) × (new.ended ≡ (length came == 0))
+    × (now.faults ≡ was.faults)
+Fills (Err fault.Read) old new was now =
+    Came [] old new was now × (new.ended ≡ false) × (new.taken < new.budget) × Rose was.faults now.faults
 Fills (Err fault.Budget) old new was now = (now ≡ was) × (new ≡ old) × (old.taken ≡ old.budget)

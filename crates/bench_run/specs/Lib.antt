@@ -1,4 +1,4 @@
 pub mod Reader
 pub mod Gather
-pub mod Asked
+pub mod Request
 pub mod Bench

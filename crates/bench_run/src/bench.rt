@@ -2,7 +2,7 @@
 ghost use Rattle.std.specs.Prelude.{◌≡◌};
 ghost use Rattle.bench_run.specs.Bench.{of_line};
 
-use crate::device_lines::{Asked, asked_by, trimmed};
+use crate::device_lines::{Request, request_in, trimmed};
 use crate::output::{write_answer, write_fault, write_reply, write_text};
 use device_core::Device;
 use ledger_keeper::Keeper;
@@ -48,9 +48,9 @@ impl<M: Mixer> Model for Bench<M> {
 impl<M: Mixer> Bench<M> {
     ghost use Rattle.std.specs.Prelude.{◌≡◌, ◌≢◌, ◌≤◌, true, false, [], ◌∷◌, ◌++◌, codes, length, map, Some, Err, IfOk};
     ghost use Rattle.std.specs.Fmt.{decimal};
-    ghost use Rattle.paygo_spec.specs.Faults.{HasCause};
-    ghost use Rattle.paygo_spec.specs.Flash.{FlashView};
-    ghost use Rattle.paygo_spec.specs.Machine.{IsEvent};
+    ghost use Rattle.paygo_spec.specs.Faults.{Counted};
+    ghost use Rattle.paygo_spec.specs.Flash.{FlashView, KeepsPlan};
+    ghost use Rattle.paygo_spec.specs.Machine.{IsEvent, FaultsBy};
     ghost use Rattle.paygo_spec.specs.Pad.{kept_of, no_keys};
     ghost use Rattle.ledger_spec.specs.Applied.{Applies};
     ghost use Rattle.ledger_spec.specs.Keeper.{KeeperView};
@@ -59,8 +59,7 @@ impl<M: Mixer> Bench<M> {
     ghost use Rattle.run_spec.specs.Meaning.{is_ledger_text, steps_of_line, steps_of_ledger, steps_of_device, trimmed as line_trimmed};
     ghost use Rattle.run_spec.specs.Run.{Say, Do, Act};
     ghost use Rattle.device_core.specs.Memory.{is_on, Holds, IsDown, Does, CostsAsSaid, Remembers};
-    ghost use Rattle.bench_run.specs.Asked.{events_of, IsAsked};
-    ghost use Rattle.bench_run.specs.Bench.{desk, Works, DeviceWorks, Says, HasCauses, IsLedgerFault};
+    ghost use Rattle.bench_run.specs.Bench.{desk, Works, DeviceDid, Says, HasCauses, IsLedgerFault};
 
     /// A bench whose device is off, and has a pad on which nothing was typed.
     pub fn start() -> Bench<M>
@@ -81,8 +80,9 @@ impl<M: Mixer> Bench<M> {
         requires event { IsEvent event }
         requires holds { Holds self.old (F.view flash.old) }
         ensures holds { Holds self.new (F.view flash.new) }
-        ensures later { (F.view flash.old).faults ≤ (F.view flash.new).faults }
-        ensures down { result ≡ Some Reply.Down → IsDown self.old (F.view flash.old) self.new (F.view flash.new) }
+        ensures faults { FaultsBy result (F.view flash.old).faults (F.view flash.new).faults }
+        ensures plan { KeepsPlan (F.view flash.old) (F.view flash.new) }
+        ensures down { result ≡ Some Reply.Down → IsDown self.new }
         ensures step { Does M.next event self.old (F.view flash.old) result self.new (F.view flash.new) }
         ensures calls { CostsAsSaid M.next event self.old (F.view flash.old) result (F.view flash.new) }
         ensures kept { event ≡ Event.Power → (F.view flash.new).words ≡ (F.view flash.old).words }
@@ -96,8 +96,8 @@ impl<M: Mixer> Bench<M> {
     ///
     /// # Errors
     ///
-    /// `Keeper` only where the keeper's count of faults rose in this call, or stands at 2^64 - 1: the tables are as before or
-    /// have the whole change. `Memory` where there is none: the tables are as before.
+    /// `Keeper` where the keeper failed, once, and counted it: the tables are as before or have the whole change. `Memory` where
+    /// there is none: the tables are as before. In any other call the keeper counted no fault.
     pub fn command<D: Keeper>(
         &mut self,
         alloc: Global,
@@ -132,11 +132,11 @@ impl<M: Mixer> Bench<M> {
     ///
     /// # Errors
     ///
-    /// `Write` only where the sink's count of faults rose in this call, or stands at 2^64 - 1. The steps up to the one whose
-    /// answer failed have happened, and no later one; every earlier answer was written whole, and of the last one fewer bytes
-    /// than it has. `Keep` only where the keeper's count did, and `Memory`, at a line of the ledger alone and never in
-    /// `Mode::Device`: nothing was written, and device and flash are as before. At `Keep` the tables are as before or have the
-    /// whole change of the command; at `Memory` they are as before.
+    /// `Write` where the sink failed, once, and counted it. The steps up to the one whose answer failed have happened, and no
+    /// later one; every earlier answer was written whole, and of the last one fewer bytes than it has. `Keep` where the keeper
+    /// failed, once, and counted it, and `Memory`, at a line of the ledger alone and never in `Mode::Device`: nothing was written,
+    /// and device and flash are as before. At `Keep` the tables are as before or have the whole change of the command; at `Memory`
+    /// they are as before. No other fault of keeper and sink was counted, and of the flash none but those that were planned.
     pub fn line<K: Sink, D: Keeper, F: Flash>(
         &mut self,
         alloc: Global,
@@ -149,10 +149,12 @@ impl<M: Mixer> Bench<M> {
         requires most { length line.now ≤ 4096 }
         requires holds { Holds self.old (F.view flash.old) }
         ensures holds { Holds self.new (F.view flash.new) }
-        ensures later { (F.view flash.old).faults ≤ (F.view flash.new).faults }
-        ensures causes { HasCauses result (D.view keeper.old).faults (D.view keeper.new).faults (K.view sink.old).faults (K.view sink.new).faults }
+        ensures plan { KeepsPlan (F.view flash.old) (F.view flash.new) }
+        ensures causes { HasCauses result (D.view keeper.old).faults (D.view keeper.new).faults
+            (K.view sink.old).faults (K.view sink.new).faults }
         ensures ledger { IsLedgerFault result → (mode ≢ Mode.Device) × (is_ledger_text (line_trimmed line.now) ≡ true) }
-        ensures unwritten { IsLedgerFault result → (self.new ≡ self.old) × (flash.new ≡ flash.old) × (sink.new ≡ sink.old) }
+        ensures unwritten { IsLedgerFault result →
+            (self.new ≡ self.old) × (flash.new ≡ flash.old) × (sink.new ≡ sink.old) }
         ensures keeper { mode ≡ Mode.Device → keeper.new ≡ keeper.old }
         ensures device { mode ≡ Mode.Serve → (self.new ≡ self.old) × (flash.new ≡ flash.old) }
         ensures works { Works M.next mode (steps_of_line mode line.now) result
@@ -179,11 +181,13 @@ impl<M: Mixer> Bench<M> {
         sink: &mut K,
     ) -> Result<(), LineFault>
         ensures same { self.new ≡ self.old }
-        ensures causes { HasCauses result (D.view keeper.old).faults (D.view keeper.new).faults (K.view sink.old).faults (K.view sink.new).faults }
+        ensures causes { HasCauses result (D.view keeper.old).faults (D.view keeper.new).faults
+            (K.view sink.old).faults (K.view sink.new).faults }
         ensures ledger { IsLedgerFault result → (mode ≢ Mode.Device) × (sink.new ≡ sink.old) }
         ensures keeper { mode ≡ Mode.Device → keeper.new ≡ keeper.old }
         ensures works { (flash : FlashView) → Works M.next mode (steps_of_ledger mode text.now) result
-            (desk self.old (D.view keeper.old) flash (K.view sink.old)) (desk self.new (D.view keeper.new) flash (K.view sink.new)) }
+            (desk self.old (D.view keeper.old) flash (K.view sink.old))
+            (desk self.new (D.view keeper.new) flash (K.view sink.new)) }
     {
         if mode == Mode::Device {
             return told(write_text(sink, b"no ledger here"));
@@ -212,9 +216,11 @@ impl<M: Mixer> Bench<M> {
         requires mode { mode ≢ Mode.Device }
         ensures same { self.new ≡ self.old }
         ensures ledger { IsLedgerFault result → sink.new ≡ sink.old }
-        ensures causes { HasCauses result (D.view keeper.old).faults (D.view keeper.new).faults (K.view sink.old).faults (K.view sink.new).faults }
+        ensures causes { HasCauses result (D.view keeper.old).faults (D.view keeper.new).faults
+            (K.view sink.old).faults (K.view sink.new).faults }
         ensures works { (flash : FlashView) → Works M.next mode (Do command.now ∷ []) result
-            (desk self.old (D.view keeper.old) flash (K.view sink.old)) (desk self.new (D.view keeper.new) flash (K.view sink.new)) }
+            (desk self.old (D.view keeper.old) flash (K.view sink.old))
+            (desk self.new (D.view keeper.new) flash (K.view sink.new)) }
     {
         match self.command(alloc, keeper, command) {
             Ok(answer) => told(write_answer(sink, &answer)),
@@ -233,17 +239,19 @@ impl<M: Mixer> Bench<M> {
     ) -> Result<(), WriteFault>
         requires holds { Holds self.old (F.view flash.old) }
         ensures holds { Holds self.new (F.view flash.new) }
-        ensures later { (F.view flash.old).faults ≤ (F.view flash.new).faults }
-        ensures cause { HasCause (K.view sink.old).faults (K.view sink.new).faults result }
+        ensures plan { KeepsPlan (F.view flash.old) (F.view flash.new) }
+        ensures cause { Counted result (K.view sink.old).faults (K.view sink.new).faults }
         ensures device { mode ≡ Mode.Serve → (self.new ≡ self.old) × (flash.new ≡ flash.old) }
         ensures works { (keeper : KeeperView) → Works M.next mode (steps_of_device mode text.now) (of_line result)
-            (desk self.old keeper (F.view flash.old) (K.view sink.old)) (desk self.new keeper (F.view flash.new) (K.view sink.new)) }
+            (desk self.old keeper (F.view flash.old) (K.view sink.old))
+            (desk self.new keeper (F.view flash.new) (K.view sink.new)) }
     {
         if mode == Mode::Serve {
             return write_text(sink, b"no device here");
         }
-        match asked_by(text) {
-            Some(asked) => self.do_asked(asked, flash, sink),
+        match request_in(text) {
+            Some(Request::One(event)) => self.answer(event, flash, sink),
+            Some(Request::Keys(text)) => self.keys(text, flash, sink),
             None => write_text(sink, b"unread"),
         }
     }
@@ -252,36 +260,17 @@ impl<M: Mixer> Bench<M> {
     ///
     /// # Errors
     ///
-    /// `WriteFault` as in [`Bench::line`].
+    /// `WriteFault` as `Write` in [`Bench::line`].
     pub fn long<K: Sink>(&mut self, size: u64, sink: &mut K) -> Result<(), WriteFault>
         ensures same { self.new ≡ self.old }
-        ensures cause { HasCause (K.view sink.old).faults (K.view sink.new).faults result }
-        ensures works { Says M.next (Say (codes "long " ++ decimal size) ∷ []) result (K.view sink.old) (K.view sink.new) }
+        ensures cause { Counted result (K.view sink.old).faults (K.view sink.new).faults }
+        ensures works { Says M.next (Say (codes "long " ++ decimal size) ∷ []) result (K.view sink.old)
+            (K.view sink.new) }
     {
         let mut text = Line::new();
         text.push(b"long");
         text.push_number(size);
         write_text(sink, text.as_bytes())
-    }
-
-    // The events that a line asks for, each answered before the next one is taken.
-    fn do_asked<K: Sink, F: Flash>(
-        &mut self,
-        asked: Asked<'_>,
-        flash: &mut F,
-        sink: &mut K,
-    ) -> Result<(), WriteFault>
-        requires asked { IsAsked asked }
-        requires holds { Holds self.old (F.view flash.old) }
-        ensures holds { Holds self.new (F.view flash.new) }
-        ensures later { (F.view flash.old).faults ≤ (F.view flash.new).faults }
-        ensures cause { HasCause (K.view sink.old).faults (K.view sink.new).faults result }
-        ensures works { DeviceWorks M.next (map Act (events_of asked.entry)) result self.old (F.view flash.old) (K.view sink.old) self.new (F.view flash.new) (K.view sink.new) }
-    {
-        match asked {
-            Asked::One(event) => self.answer(event, flash, sink),
-            Asked::Keys(text) => self.keys(text, flash, sink),
-        }
     }
 
     // The keys of a text, each answered before the next one is pressed.
@@ -293,10 +282,8 @@ impl<M: Mixer> Bench<M> {
     ) -> Result<(), WriteFault>
         requires keys { are_key_text text.now ≡ true }
         requires holds { Holds self.old (F.view flash.old) }
-        ensures holds { Holds self.new (F.view flash.new) }
-        ensures later { (F.view flash.old).faults ≤ (F.view flash.new).faults }
-        ensures cause { HasCause (K.view sink.old).faults (K.view sink.new).faults result }
-        ensures works { DeviceWorks M.next (map Act (presses text.now)) result self.old (F.view flash.old) (K.view sink.old) self.new (F.view flash.new) (K.view sink.new) }
+        ensures { DeviceDid M.next (map Act (presses text.now)) result self.old (F.view flash.old) (K.view sink.old)
+            self.new (F.view flash.new) (K.view sink.new) }
     {
         for byte in text {
             match self.key(*byte, flash, sink) {
@@ -316,10 +303,8 @@ impl<M: Mixer> Bench<M> {
     ) -> Result<(), WriteFault>
         requires key { is_key_text key ≡ true }
         requires holds { Holds self.old (F.view flash.old) }
-        ensures holds { Holds self.new (F.view flash.new) }
-        ensures later { (F.view flash.old).faults ≤ (F.view flash.new).faults }
-        ensures cause { HasCause (K.view sink.old).faults (K.view sink.new).faults result }
-        ensures works { DeviceWorks M.next (map Act (presses (key ∷ []))) result self.old (F.view flash.old) (K.view sink.old) self.new (F.view flash.new) (K.view sink.new) }
+        ensures { DeviceDid M.next (map Act (presses (key ∷ []))) result self.old (F.view flash.old) (K.view sink.old)
+            self.new (F.view flash.new) (K.view sink.new) }
     {
         if key == b' ' {
             return Ok(());
@@ -336,10 +321,8 @@ impl<M: Mixer> Bench<M> {
     ) -> Result<(), WriteFault>
         requires event { IsEvent event }
         requires holds { Holds self.old (F.view flash.old) }
-        ensures holds { Holds self.new (F.view flash.new) }
-        ensures later { (F.view flash.old).faults ≤ (F.view flash.new).faults }
-        ensures cause { HasCause (K.view sink.old).faults (K.view sink.new).faults result }
-        ensures works { DeviceWorks M.next (Act event ∷ []) result self.old (F.view flash.old) (K.view sink.old) self.new (F.view flash.new) (K.view sink.new) }
+        ensures { DeviceDid M.next (Act event ∷ []) result self.old (F.view flash.old) (K.view sink.old)
+            self.new (F.view flash.new) (K.view sink.new) }
     {
         let reply = self.event(flash, event);
         write_reply(sink, reply)

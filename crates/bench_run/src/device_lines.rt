@@ -5,14 +5,14 @@ ghost use Rattle.run_spec.specs.DeviceLines.{are_key_text, config_in, divider_in
 ghost use Rattle.paygo_spec.specs.Clock.{divides_day};
 ghost use Rattle.paygo_spec.specs.Machine.{IsConfig, IsEvent};
 ghost use Rattle.run_spec.specs.Meaning.{trimmed as line_trimmed};
-ghost use Rattle.bench_run.specs.Asked.{events_of, IsAsked};
+ghost use Rattle.bench_run.specs.Request.{events_of, IsRequest};
 
 use line_text::{after_prefix, first_word, key, number};
-use paygo_spec::{Config, DAY, Event, Form};
+use paygo_spec::{Config, Event, Form, is_divider};
 
 // What a line asks for, whose events are its meaning.
 #[derive(Clone, Copy)]
-pub(crate) enum Asked<'a> {
+pub(crate) enum Request<'a> {
     // This event.
     One(Event),
     // A key of the pad for each byte of this text but its spaces.
@@ -27,13 +27,6 @@ pub(crate) fn trimmed(line: &[u8]) -> &[u8]
         Some(front) => front,
         None => line,
     }
-}
-
-// Whether a day has a whole number of seconds for so many units.
-fn is_divider(n: u64) -> bool
-    ensures { result ≡ divides_day n }
-{
-    n > 0 && n < 256 && u64::from(DAY) % n == 0
 }
 
 // The number of units in a day that a word says.
@@ -164,27 +157,27 @@ fn read_raise(line: &[u8]) -> Option<Event>
 }
 
 // What a line asks for, where it has one of the six forms.
-pub(crate) fn asked_by(line: &[u8]) -> Option<Asked<'_>>
+pub(crate) fn request_in(line: &[u8]) -> Option<Request<'_>>
     ensures value { option_map events_of result ≡ events_in line.now }
-    ensures range { IfSome result IsAsked }
+    ensures range { IfSome result IsRequest }
 {
     if let Some(event) = read_power(line) {
-        return Some(Asked::One(event));
+        return Some(Request::One(event));
     }
     if let Some(event) = read_make(line) {
-        return Some(Asked::One(event));
+        return Some(Request::One(event));
     }
     if let Some(text) = read_keys(line) {
-        return Some(Asked::Keys(text));
+        return Some(Request::Keys(text));
     }
     if let Some(event) = read_tick(line) {
-        return Some(Asked::One(event));
+        return Some(Request::One(event));
     }
     if let Some(event) = read_show(line) {
-        return Some(Asked::One(event));
+        return Some(Request::One(event));
     }
     match read_raise(line) {
-        Some(event) => Some(Asked::One(event)),
+        Some(event) => Some(Request::One(event)),
         None => None,
     }
 }

@@ -89,9 +89,9 @@ impl Lines {
     ///
     /// # Errors
     ///
-    /// `Read` only where the source's count of faults rose in this call, or stands at 2^64 - 1, and `Budget` exactly
-    /// where all bytes of the budget were taken and the source hasn't told its end; in both cases no whole line was
-    /// left of the bytes taken. After either nothing is said of the bytes that aren't handed out.
+    /// `Read` where the source failed, once, and counted it, and `Budget` exactly where all bytes of the budget were taken and
+    /// the source hasn't told its end; in both cases no whole line was left of the bytes taken, and any other call counts no
+    /// fault. After either nothing is said of the bytes that aren't handed out.
     pub fn next<S: Source>(
         &mut self,
         source: &mut S,

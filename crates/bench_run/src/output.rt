@@ -1,7 +1,7 @@
 // Answers written to a sink.
 ghost use Rattle.std.specs.Prelude.{◌≡◌, ◌≤◌, ◌++◌, ◌∷◌, [], Some, length};
 ghost use Rattle.std.specs.Option.{option_map};
-ghost use Rattle.paygo_spec.specs.Faults.{HasCause};
+ghost use Rattle.paygo_spec.specs.Faults.{Counted};
 ghost use Rattle.ledger_spec.specs.AnswerText.{text_of_fault};
 ghost use Rattle.ledger_spec.specs.Ledger.{AnswerIsInRange};
 ghost use Rattle.run_spec.specs.Run.{Said, Did, Told};
@@ -18,7 +18,7 @@ use paygo_spec::Reply;
 // Writes all of the bytes, or where the sink fails the first of them, fewer than all.
 fn write_all<K: Sink>(sink: &mut K, bytes: &[u8]) -> Result<(), WriteFault>
     ensures wrote { Wrote bytes.now result (K.view sink.old) (K.view sink.new) }
-    ensures cause { HasCause (K.view sink.old).faults (K.view sink.new).faults result }
+    ensures cause { Counted result (K.view sink.old).faults (K.view sink.new).faults }
 {
     let mut done = 0;
     while done < bytes.len() {
@@ -34,12 +34,12 @@ fn write_all<K: Sink>(sink: &mut K, bytes: &[u8]) -> Result<(), WriteFault>
 ///
 /// # Errors
 ///
-/// `WriteFault` only where the sink's count of faults rose in this call, or stands at 2^64 - 1: fewer bytes than the line has
-/// with its end were written, the first ones.
+/// `WriteFault` where the sink failed, once, and counted it: fewer bytes than the line has with its end were written, the first
+/// ones.
 pub fn write_line<K: Sink>(sink: &mut K, line: Line) -> Result<(), WriteFault>
     requires { length line ≤ 511 }
     ensures wrote { Wrote (line ++ 10 ∷ []) result (K.view sink.old) (K.view sink.new) }
-    ensures cause { HasCause (K.view sink.old).faults (K.view sink.new).faults result }
+    ensures cause { Counted result (K.view sink.old).faults (K.view sink.new).faults }
 {
     let mut whole = line;
     whole.push(b"\n");
@@ -49,7 +49,7 @@ pub fn write_line<K: Sink>(sink: &mut K, line: Line) -> Result<(), WriteFault>
 // Writes the line of a reply, where there is one.
 pub(crate) fn write_reply<K: Sink>(sink: &mut K, reply: Option<Reply>) -> Result<(), WriteFault>
     ensures wrote { Wrote (line_of_answer (option_map Told reply)) result (K.view sink.old) (K.view sink.new) }
-    ensures cause { HasCause (K.view sink.old).faults (K.view sink.new).faults result }
+    ensures cause { Counted result (K.view sink.old).faults (K.view sink.new).faults }
 {
     match reply {
         Some(reply) => write_line(sink, line_of(&reply)),
@@ -61,7 +61,7 @@ pub(crate) fn write_reply<K: Sink>(sink: &mut K, reply: Option<Reply>) -> Result
 pub(crate) fn write_text<K: Sink>(sink: &mut K, text: &[u8]) -> Result<(), WriteFault>
     requires { length text.now ≤ 100 }
     ensures wrote { Wrote (line_of_answer (Some (Said text.now))) result (K.view sink.old) (K.view sink.new) }
-    ensures cause { HasCause (K.view sink.old).faults (K.view sink.new).faults result }
+    ensures cause { Counted result (K.view sink.old).faults (K.view sink.new).faults }
 {
     let mut line = Line::new();
     line.push(text);
@@ -72,15 +72,16 @@ pub(crate) fn write_text<K: Sink>(sink: &mut K, text: &[u8]) -> Result<(), Write
 pub(crate) fn write_answer<K: Sink>(sink: &mut K, answer: &Answer) -> Result<(), WriteFault>
     requires { AnswerIsInRange answer.now }
     ensures wrote { Wrote (line_of_answer (Some (Did answer.now))) result (K.view sink.old) (K.view sink.new) }
-    ensures cause { HasCause (K.view sink.old).faults (K.view sink.new).faults result }
+    ensures cause { Counted result (K.view sink.old).faults (K.view sink.new).faults }
 {
     write_line(sink, answer_line(answer))
 }
 
 // Writes the line that refuses a line of the ledger without a command.
 pub(crate) fn write_fault<K: Sink>(sink: &mut K, fault: &TextFault) -> Result<(), WriteFault>
-    ensures wrote { Wrote (line_of_answer (Some (Said (text_of_fault fault.now)))) result (K.view sink.old) (K.view sink.new) }
-    ensures cause { HasCause (K.view sink.old).faults (K.view sink.new).faults result }
+    ensures wrote { Wrote (line_of_answer (Some (Said (text_of_fault fault.now)))) result (K.view sink.old)
+        (K.view sink.new) }
+    ensures cause { Counted result (K.view sink.old).faults (K.view sink.new).faults }
 {
     write_line(sink, fault_line(fault))
 }

@@ -1,12 +1,13 @@
 -- The window after one more accepted count stands for the history with it.
-use Rattle.std.proofs.Common.{◌≡◌, ℕ, Bool, true, false, not, ◌+◌, ◌-◌, ◌<◌, ◌≤◌, ◌&&◌, ◌==◌, max, nat_lt, if◌then◌else◌, List, [], ◌∷◌, arith, IsTrue, ◌↔◌, ⊎_elim}
-use Rattle.std.proofs.lemmas.Bool.{cases_lt}
+use Rattle.std.proofs.Common.{◌≡◌, ℕ, Bool, true, false, not, ◌+◌, ◌-◌, ◌<◌, ◌≤◌, ◌&&◌, ◌==◌, max, nat_lt, if◌then◌else◌, List, [], ◌∷◌, Some, arith, IsTrue, ◌↔◌, ⊎_elim}
+use Rattle.std.proofs.lemmas.Bool.{cases_lt, cases_Bool}
 use Rattle.std.proofs.lemmas.Nat.Bits.{bit_at_above}
 use Rattle.std.proofs.lemmas.Bool.Decides.{nat_tests}
 use Rattle.std.specs.Int.{bit_at}
 use Rattle.paygo_spec.specs.declared.Entry.{Entry}
 use Rattle.paygo_spec.specs.declared.Entry.TheVariants.{Accept}
-use Rattle.paygo_spec.specs.History.{Summary, top, spent, is_odd, reach, Valid}
+use Rattle.paygo_spec.specs.declared.TokenKind.TheVariants.{Add}
+use Rattle.paygo_spec.specs.History.{Summary, top, spent, is_odd, kind_of, reach, Valid}
 use Rattle.paygo_spec.specs.Window.{bit, alone, StandsFor}
 use Rattle.paygo_spec.proofs.Counts.{unspent_above}
 use Rattle.paygo_spec.proofs.Windows.{same_spent}
@@ -63,9 +64,14 @@ module _ (limit last bits : ℕ) (start : Summary) (entries : List Entry) (w : S
             (λ (hi : 16 ≤ i). bit_at_above b 16 i k.0 hi) (cases_lt i 16);
       })
 
--- an even count is valid where it is open
-pub even_valid : (start : Summary) (entries : List Entry) (limit last bits m v : ℕ) (is_open : Bool) → StandsFor limit last bits start entries → 1 ≤ m → m ≤ reach start entries v → is_odd m ≡ false → v ≤ 995 → is_open ≡ (nat_lt last (m + 16) && not (spent (alone limit last bits) [] m)) → (IsTrue is_open ↔ Valid start entries m v)
-even_valid start entries limit last bits m v is_open w p r o l e =
+-- an add token has an even count
+add_even : (m v : ℕ) → kind_of m v ≡ Some Add → is_odd m ≡ false
+add_even m v h = ⊎_elim (λ (o : is_odd m ≡ true). grind (arith, nat_tests)) (λ (o : is_odd m ≡ false). o) (cases_Bool (is_odd m))
+
+-- an add token is valid where its count is open
+pub add_valid : (start : Summary) (entries : List Entry) (limit last bits m v : ℕ) (is_open : Bool) → StandsFor limit last bits start entries → 1 ≤ m → m ≤ reach start entries v → kind_of m v ≡ Some Add → is_open ≡ (nat_lt last (m + 16) && not (spent (alone limit last bits) [] m)) → (IsTrue is_open ↔ Valid start entries m v)
+add_valid start entries limit last bits m v is_open w p r k e =
+    let o : is_odd m ≡ false = add_even m v k in
     let t : last ≡ top start entries = w.top_is in
     let q : last < m + 16 → spent start entries m ≡ spent (alone limit last bits) [] m = same_spent start entries limit last bits m w p in
-    rw e (grind (arith, nat_tests))
+    rw (e, k) (grind (arith, nat_tests))

@@ -11,7 +11,7 @@ ghost use Rattle.paygo_spec.specs.Window.{StandsFor, alone, IsWindow, is_window}
 ghost use Rattle.paygo_spec.specs.Snapshot.{window_of};
 ghost use Rattle.count_window.specs.Bits.{HasBits};
 
-use paygo_spec::{GREAT, LAST};
+use paygo_spec::{GREAT, LAST, TokenKind};
 use std::marker::Model;
 
 /// What a device keeps of the tokens that it accepted: the greatest count that it ever takes, which is 4,095, or 16,383 on a
@@ -54,33 +54,37 @@ impl Window {
     /// of a sync token, but never above the limit.
     pub fn reach(&self, value: u16) -> u16
         ensures window { result ≡ reach_of (alone self.now.limit self.now.last self.now.bits) [] value }
-        ensures history { (start : Summary) (entries : List Entry) → StandsFor self.now.limit self.now.last self.now.bits start entries →
+        ensures history { (start : Summary) (entries : List Entry) →
+            StandsFor self.now.limit self.now.last self.now.bits start entries →
             result ≡ reach_of start entries value }
     {
         let step = if value == 999 { 100 } else { 64 };
         self.limit.min(self.last + step)
     }
 
-    /// Whether the token of this count and value is taken next. A set token, of an odd count, is taken above the last
-    /// count, with a value from 0 to 995, or 998, or 999. An add token, of an even count, is taken with a value from 0
-    /// to 995, less than sixteen below the last count, and not twice. Neither is taken above the reach.
+    /// Whether the token of this count and value is taken next, which must be of some kind. An add token is taken less
+    /// than sixteen below the last count, and not twice. A token of another kind is taken above the last count. None is
+    /// taken above the reach.
     pub fn may(&self, count: u16, value: u16) -> bool
         ensures window { result ≡ is_valid (alone self.now.limit self.now.last self.now.bits) [] count value }
-        ensures history { (start : Summary) (entries : List Entry) → StandsFor self.now.limit self.now.last self.now.bits start entries →
+        ensures history { (start : Summary) (entries : List Entry) →
+            StandsFor self.now.limit self.now.last self.now.bits start entries →
             (IsTrue result ↔ Valid start entries count value) }
     {
         if count < 1 || count > self.reach(value) {
             return false;
         }
-        if count % 2 == 1 {
-            return count > self.last && (value <= 995 || value == 998 || value == 999);
+        match TokenKind::of(count, value) {
+            Some(TokenKind::Add) => self.is_open(count),
+            Some(_) => count > self.last,
+            None => false,
         }
-        value <= 995 && self.is_open(count)
     }
 
     /// Whether a count is less than sixteen below the last one, and isn't spent.
     fn is_open(&self, count: u16) -> bool
-        ensures { result ≡ (nat_lt self.now.last (count + 16) && not (spent (alone self.now.limit self.now.last self.now.bits) [] count)) }
+        ensures { result ≡ (nat_lt self.now.last (count + 16) &&
+            not (spent (alone self.now.limit self.now.last self.now.bits) [] count)) }
     {
         if count > self.last {
             return true;
@@ -93,8 +97,10 @@ impl Window {
     /// count all counts below it.
     pub fn take(&mut self, count: u16, value: u16)
         requires may { is_valid (alone self.old.limit self.old.last self.old.bits) [] count value ≡ true }
-        ensures window { self.new ≡ window_of (alone self.old.limit self.old.last self.old.bits) (Accept count value ∷ []) }
-        ensures history { (start : Summary) (entries : List Entry) → StandsFor self.old.limit self.old.last self.old.bits start entries →
+        ensures window { self.new ≡ window_of (alone self.old.limit self.old.last self.old.bits)
+            (Accept count value ∷ []) }
+        ensures history { (start : Summary) (entries : List Entry) →
+            StandsFor self.old.limit self.old.last self.old.bits start entries →
             StandsFor self.new.limit self.new.last self.new.bits start (Accept count value ∷ entries) }
     {
         let bits = bits_after(self.last, self.bits, count);
@@ -117,7 +123,8 @@ impl Window {
     pub fn raise(&mut self)
         ensures window { self.new ≡ window_of (alone self.old.limit self.old.last self.old.bits) (Raised ∷ []) }
         ensures parts { self.new ≡ record { limit = raised_limit; last = self.old.last; bits = self.old.bits } }
-        ensures history { (start : Summary) (entries : List Entry) → StandsFor self.old.limit self.old.last self.old.bits start entries →
+        ensures history { (start : Summary) (entries : List Entry) →
+            StandsFor self.old.limit self.old.last self.old.bits start entries →
             StandsFor self.new.limit self.new.last self.new.bits start (Raised ∷ entries) }
     {
         self.limit = GREAT;
@@ -154,7 +161,8 @@ fn bits_after(last: u16, bits: u16, count: u16) -> u16
     requires counted { 1 ≤ count }
     requires near { last < count + 16 }
     requires even { count ≤ last → is_odd count ≡ false }
-    ensures { (limit : ℕ) (start : Summary) (entries : List Entry) (value : ℕ) → StandsFor limit last bits start entries →
+    ensures { (limit : ℕ) (start : Summary) (entries : List Entry) (value : ℕ) →
+        StandsFor limit last bits start entries →
         StandsFor limit (max last count) result start (Accept count value ∷ entries) }
 {
     if count <= last {

@@ -5,27 +5,26 @@ use Rattle.paygo_spec.specs.declared.Entry.{Entry}
 use Rattle.paygo_spec.specs.declared.Entry.TheVariants.{Accept, Bad, Elapsed, Raised}
 use Rattle.paygo_spec.specs.declared.Reply.{Reply}
 use Rattle.paygo_spec.specs.declared.Reply.TheVariants as reply_is
-use Rattle.paygo_spec.specs.Calls.{DueAfter}
+use Rattle.paygo_spec.specs.declared.TokenKind.{TokenKind}
+use Rattle.paygo_spec.specs.declared.TokenKind.TheVariants.{Add, Set, Free, Sync}
+use Rattle.paygo_spec.specs.Flash.{DueAfter, FlashView, Becomes}
 use Rattle.paygo_spec.specs.Clock.{ClockView, clock_at_start}
-use Rattle.paygo_spec.specs.Flash.{FlashView, Becomes}
-use Rattle.paygo_spec.specs.History.{first_limit, is_odd}
+use Rattle.paygo_spec.specs.History.{first_limit, kind_of}
 use Rattle.paygo_spec.specs.Lawful.{MayFollow, follows}
 use Rattle.paygo_spec.specs.Layout.{Position, last_bank, room, further, turned, calls_of_entry}
 use Rattle.paygo_spec.specs.Recovery.{JournalView, recover}
 use Rattle.paygo_spec.specs.Recovery as recovered
 use Rattle.paygo_spec.specs.Snapshot.{snapshot}
 use Rattle.paygo_spec.specs.Machine as machine
-use Rattle.paygo_spec.specs.Machine.{History, Stored, Journal, Effect, StandsAs, Stands, unit_for, gone_on, clock_at, reply_to_set, reply_to_entry, MayAdd, MayRaise, Meets, calls_of_effect}
+use Rattle.paygo_spec.specs.Machine.{History, Stored, Journal, Effect, StandsAs, Stands, unit_for, gone_on, clock_at, reply_to_token, reply_to_entry, MayAdd, MayRaise, Meets, calls_of_effect}
 use Rattle.paygo_spec.proofs.Snapshots.{snapshot_may, snapshot_more}
 use Rattle.paygo_spec.proofs.Entries.{follows_is}
 use Rattle.journal_laws.specs.Journal.{with_entry, raised_journal, IsCut}
-use Rattle.device_core.specs.declared.decision.Decision.{Decision}
-use Rattle.device_core.specs.declared.decision.Decision.TheVariants.{Answers, Adds, Raises}
-use Rattle.device_core.specs.Decided.{MayDo}
+use Rattle.device_core.specs.Decided.{MayDo, decision_of}
 use Rattle.device_core.specs.Memory.{Costs}
 use Rattle.device_core.specs.Changes.{Stays, Added, CutOff, AddsAs, RaisedNow, CutRaise, RaisesAs, CarriedOut}
 use Rattle.device_core.proofs.Stands.{as_stands, becomes_stands, journal_of, IsLawful}
-use Rattle.device_core.proofs.Effects.{GoesOn, IsEffect}
+use Rattle.device_core.proofs.Effects.{GoesOn, Lasts}
 
 -- no call is made
 pub due_none : (due : Option (Option ℕ)) → DueAfter 0 due due
@@ -34,22 +33,29 @@ due_none (Some None) = refl
 due_none (Some (Some n)) = (omega arith, ap (λ (m : ℕ). Some (Some m)) (omega arith))
 
 -- the reply to an entry says neither that the flash failed nor that there is no room
-set_fair : (count value : ℕ) (clock : ClockView) (small free : Bool)
-    → (let reply = if small then reply_is.Set count value clock.left else if free then reply_is.Free count else reply_is.Synced count in (reply ≢ reply_is.Down) × (reply ≢ reply_is.Worn))
-set_fair count value clock true free = (λ e. cc, λ e. cc)
-set_fair count value clock false true = (λ e. cc, λ e. cc)
-set_fair count value clock false false = (λ e. cc, λ e. cc)
-
-accept_fair : (count value : ℕ) (clock : ClockView) (odd : Bool)
-    → (let reply = if odd then reply_to_set count value clock else reply_is.Added count value clock.left clock.free in (reply ≢ reply_is.Down) × (reply ≢ reply_is.Worn))
-accept_fair count value clock true = set_fair count value clock _ _
-accept_fair count value clock false = (λ e. cc, λ e. cc)
+token_fair : (kind : Option TokenKind) (count value : ℕ) (clock : ClockView)
+    → (reply_to_token kind count value clock ≢ reply_is.Down) × (reply_to_token kind count value clock ≢ reply_is.Worn)
+token_fair (Some Add) count value clock = (λ e. cc, λ e. cc)
+token_fair (Some Set) count value clock = (λ e. cc, λ e. cc)
+token_fair (Some Free) count value clock = (λ e. cc, λ e. cc)
+token_fair (Some Sync) count value clock = (λ e. cc, λ e. cc)
+token_fair None count value clock = (λ e. cc, λ e. cc)
 
 fair : (entry : Entry) (clock : ClockView) → (reply_to_entry entry clock ≢ reply_is.Down) × (reply_to_entry entry clock ≢ reply_is.Worn)
-fair (Accept count value) clock = accept_fair count value clock (is_odd count)
+fair (Accept count value) clock = token_fair (kind_of count value) count value clock
 fair Bad clock = (λ e. cc, λ e. cc)
 fair (Elapsed seconds) clock = (λ e. cc, λ e. cc)
 fair Raised clock = (λ e. cc, λ e. cc)
+
+-- what is answered to an entry that was added says so
+by_reply : (entry : Entry) (old : JournalView) (was : FlashView) (reply : Reply) (new : JournalView) (now : FlashView) → reply ≢ reply_is.Down → reply ≢ reply_is.Worn → Added entry old was reply new now → AddsAs entry old was reply new now
+by_reply entry old was reply_is.Worn new now down worn added = absurd (worn refl)
+by_reply entry old was reply_is.Down new now down worn added = absurd (down refl)
+by_reply entry old was _ new now down worn added = added
+
+pub added_as : (entry : Entry) (old : JournalView) (was : FlashView) (reply : Reply) (new : JournalView) (now : FlashView) (clock : ClockView) → reply ≡ reply_to_entry entry clock → Added entry old was reply new now → AddsAs entry old was reply new now
+added_as entry old was reply new now clock is added =
+    by_reply entry old was reply new now (λ e. (fair entry clock).0 (sym is ∙ e)) (λ e. (fair entry clock).1 (sym is ∙ e)) added
 
 -- the three ways of an entry that is to be added
 abbrev pub OneOf : Entry → JournalView → FlashView → Reply → JournalView → FlashView → Type 0
@@ -226,21 +232,14 @@ module _ (history : History) (bank : ℕ) (lawful : IsLawful history) where
         (λ stands. becomes_stands was.words now.words (recovered.Made new) (Journal history) after ok.words stands now_stands)
         (subst (λ (n : ℕ). Costs (Some n) (Some reply) was now) (sym (all_calls ok.some_bank)) (costs_after 13 (Some reply) was now other ok.calls.due))
 
-    pub went : (decision : Option Decision) (effect : Effect) (reply : Option Reply) → IfSome decision (MayDo journal) → IsEffect journal history decision effect
-        → CarriedOut decision journal was reply new now → Went history effect was reply new now
-    went None (machine.Answers answer entries) reply may (is, goes) (none, stays) =
-        stayed (machine.Answers answer entries) reply entries (λ e. (let bad : None ≡ Some reply_is.Down = sym none ∙ e in cc)) (none ∙ sym is, refl) refl goes stays
-    went (Some (Answers said)) (machine.Answers answer entries) (Some reply) may (is, goes) (same, stays) =
-        stayed (machine.Answers answer entries) (Some reply) entries (λ e. may (let down : reply ≡ reply_is.Down = cc in sym same ∙ down)) (ap Some same ∙ sym is, refl) refl goes stays
-    went (Some (Adds entry)) (machine.Adds other) (Some reply) may is adds =
-        subst (λ (e : Entry). Went history (machine.Adds e) was (Some reply) new now) (sym is) (added entry reply may (one_of entry journal was reply new now adds))
-    went (Some Raises) machine.Raises (Some reply) may is raises = raised reply may (one_of_raise journal was reply new now raises)
-    went None machine.Raises reply may is did = absurd is
-    went (Some (Answers said)) machine.Raises reply may is did = absurd is
-    went (Some (Adds entry)) machine.Raises reply may is did = absurd is
-    went (Some Raises) (machine.Answers answer entries) reply may is did = absurd is
-    went (Some Raises) (machine.Adds entry) reply may is did = absurd is
-    went None (machine.Adds entry) reply may is did = absurd is
-    went (Some (Answers said)) (machine.Adds entry) reply may is did = absurd is
-    went (Some (Adds entry)) (machine.Answers answer entries) reply may is did = absurd is
-    went (Some decision) effect None may is did = absurd did
+    pub went : (effect : Effect) (reply : Option Reply) → IfSome (decision_of effect) (MayDo journal) → Lasts journal history effect
+        → CarriedOut (decision_of effect) journal was reply new now → Went history effect was reply new now
+    went (machine.Answers None entries) reply may goes (none, stays) =
+        stayed (machine.Answers None entries) reply entries (λ e. (let bad : None ≡ Some reply_is.Down = sym none ∙ e in cc)) (none, refl) refl goes stays
+    went (machine.Answers (Some said) entries) (Some reply) may goes (same, stays) =
+        stayed (machine.Answers (Some said) entries) (Some reply) entries (λ e. may (let down : reply ≡ reply_is.Down = cc in sym same ∙ down)) (ap Some same, refl) refl goes stays
+    went (machine.Adds entry) (Some reply) may goes adds = added entry reply may (one_of entry journal was reply new now adds)
+    went machine.Raises (Some reply) may goes raises = raised reply may (one_of_raise journal was reply new now raises)
+    went (machine.Answers (Some said) entries) None may goes did = absurd did
+    went (machine.Adds entry) None may goes did = absurd did
+    went machine.Raises None may goes did = absurd did

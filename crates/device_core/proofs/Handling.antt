@@ -6,7 +6,7 @@ use Rattle.paygo_spec.specs.declared.Reply.{Reply}
 use Rattle.paygo_spec.specs.declared.Reply.TheVariants as reply_is
 use Rattle.paygo_spec.specs.Flash.{FlashView}
 use Rattle.paygo_spec.specs.Pad.{Keys}
-use Rattle.paygo_spec.specs.Machine.{State, Acts, ActsIf, Goes, GoesBy, calls_on, calls_of, only}
+use Rattle.paygo_spec.specs.Machine.{State, Acts, ActsIf, Goes, GoesBy, FaultsBy, calls_on, calls_of, only}
 use Rattle.device_core.specs.declared.device.Device.{Device}
 use Rattle.device_core.specs.declared.device.Phase.TheVariants.{Off}
 use Rattle.device_core.specs.Memory.{Backs, Holds}
@@ -28,6 +28,12 @@ pub goes_on : (reply : Option Reply) (keys : Keys) (old new : State) → reply �
 goes_on None keys old new other goes = goes
 goes_on (Some reply_is.Down) keys old new other goes = absurd (other refl)
 goes_on (Some _) keys old new other goes = goes
+
+-- any reply but Down is no fault
+pub no_fault : (reply : Option Reply) (before now : ℕ) → reply ≢ Some reply_is.Down → now ≡ before → FaultsBy reply before now
+no_fault None before now other same = same
+no_fault (Some reply_is.Down) before now other same = absurd (other refl)
+no_fault (Some _) before now other same = same
 
 pub settled_other : (reply : Option Reply) (device : Device) → reply ≢ Some reply_is.Down → settled reply device ≡ device
 settled_other None device other = refl

@@ -1,5 +1,5 @@
 -- A device is made.
-use Rattle.std.proofs.Common.{◌≡◌, ◌≢◌, inl, inr, ℕ, Bool, true, false, List, Option, Some, None, IfSome, refl, sym, ap, ◌∙◌, arith, subst}
+use Rattle.std.proofs.Common.{◌≡◌, ◌≢◌, inl, inr, ℕ, Bool, true, false, List, Option, Some, None, IfSome, refl, sym, ap, ◌∙◌, subst}
 use Rattle.paygo_spec.specs.declared.Config.{Config}
 use Rattle.paygo_spec.specs.declared.Event.TheVariants.{Make}
 use Rattle.paygo_spec.specs.declared.Reply.{Reply}
@@ -11,6 +11,7 @@ use Rattle.paygo_spec.specs.Pad.{Keys, PadView, no_keys, kept_of}
 use Rattle.paygo_spec.specs.Recovery.{JournalView, Recovered, recover}
 use Rattle.paygo_spec.specs.Recovery as recovered
 use Rattle.paygo_spec.specs.Machine.{Stored, Blank, Broken, Journal, StandsAs, Stands, MayMake, new_device, unit_for, calls_on}
+use Rattle.paygo_spec.proofs.Plans.{plan_passed, plan_failed}
 use Rattle.paygo_spec.proofs.Snapshots.{snapshot_start}
 use Rattle.paygo_spec.proofs.Windows.{fresh_keeps}
 use Rattle.journal_laws.specs.Journal.{new_journal, IsCutMake}
@@ -20,7 +21,7 @@ use Rattle.device_core.specs.declared.device.Phase.TheVariants.{Off, Unmade, Dam
 use Rattle.device_core.specs.Memory.{Holds, Costs, MakesBy}
 use Rattle.device_core.specs.Changes.{Strange, Begins, Handled, off_device, settled}
 use Rattle.device_core.proofs.Stands.{becomes_stands, becomes_backs}
-use Rattle.device_core.proofs.Handling.{off_holds}
+use Rattle.device_core.proofs.Handling.{no_fault, off_holds}
 use Rattle.device_core.proofs.Recalling.{Reacts, handled_on}
 
 -- a new journal stands for a new device
@@ -68,7 +69,7 @@ module _ (next : List ℕ → ℕ → ℕ) (config : Config) (pad : PadView) (wa
         (
           record { on = true; stored = Journal (new_device config); keys = keys; faults = now.faults },
           (refl, refl),
-          record { on_is = refl; keys_are = refl; later = (let later = passed.later in omega arith) },
+          record { on_is = refl; keys_are = refl; faults_are = passed.faults ∙ sym same },
           record { on_is = refl; pad_is = pad_is; fits = fits; faults_are = refl },
           λ stands. becomes_stands was.words now.words (recovered.Made journal) Blank (Journal (new_device config)) becomes stands fits,
         ),
@@ -85,7 +86,7 @@ module _ (next : List ℕ → ℕ → ℕ) (config : Config) (pad : PadView) (wa
         (
           record { on = false; stored = told.0; keys = no_keys; faults = now.faults },
           told.1,
-          record { off = refl; cleared = refl; later = (let later = failed.later in omega arith); rose = subst (λ (n : ℕ). Rose n now.faults) (sym same) failed.rose },
+          record { off = refl; cleared = refl; rose = subst (λ (n : ℕ). Rose n now.faults) (sym same) failed.rose },
           record { on_is = refl; pad_is = refl; fits = tt; faults_are = refl },
           told.2,
         ),
@@ -99,7 +100,8 @@ module _ (next : List ℕ → ℕ → ℕ) (config : Config) (pad : PadView) (wa
       → Handled next (Make config) old was (Some reply) new now
   strange_handled reply new fair kept strange makes = record {
     holds = kept;
-    later = strange.later;
+    faults = no_fault (Some reply) was.faults now.faults fair strange.calls.faults;
+    plan = plan_passed 2 was now strange.calls;
     down = λ e. absurd (fair e);
     step = λ state agrees. absurd (untold_stands was.words state.stored strange.untold agrees.stand.words);
     calls = λ state agrees. absurd (untold_stands was.words state.stored strange.untold agrees.stand.words);
@@ -111,14 +113,14 @@ module _ (next : List ℕ → ℕ → ℕ) (config : Config) (pad : PadView) (wa
   up_handled journal begun =
       handled_on next (Make config) (λ e. cc) old was (Some up_reply) (record { phase = Up journal; pad = pad }) now holds refl
       (λ state recalled. made_by journal begun state.on state.stored state.keys state.faults recalled.fits recalled.faults_are recalled.pad_is)
-      record { up = λ e. begun.3.up; words = becomes_backs was.words now.words (recovered.Made journal) begun.2 } begun.3.later (λ e. cc)
+      record { up = λ e. begun.3.up; words = becomes_backs was.words now.words (recovered.Made journal) begun.2 } begun.3.faults (plan_passed 15 was now begun.3) (λ e. cc)
       (λ recalled. (λ e. (refl, ap (λ (j : JournalView). Some (recovered.Made j)) begun.0, refl), λ e. recalled))
 
   down_handled : Begins config Off reply_is.Down was now → Handled next (Make config) old was (Some reply_is.Down) off_device now
   down_handled begun =
       handled_on next (Make config) (λ e. cc) old was (Some reply_is.Down) off_device now holds refl
       (λ state recalled. cut_by begun state.on state.stored state.keys state.faults recalled.fits recalled.faults_are)
-      (off_holds now) begun.1.later (λ e. record { off = refl; cleared = refl; rose = begun.1.rose }) (λ recalled. (λ e. refl, λ e. recalled))
+      (off_holds now) begun.1.rose (plan_failed 15 was now begun.1) (λ e. record { off = refl; cleared = refl }) (λ recalled. (λ e. refl, λ e. recalled))
 
   made_here : (phase : Phase) (reply : Reply) → Begins config phase reply was now → Handled next (Make config) old was (Some reply) (settled (Some reply) (record { phase = phase; pad = pad })) now
   made_here (Up journal) reply begun =
@@ -128,7 +130,7 @@ module _ (next : List ℕ → ℕ → ℕ) (config : Config) (pad : PadView) (wa
   made_here Off (reply_is.Made number) strange =
       strange_handled (reply_is.Made number) (record { phase = Off; pad = pad }) (λ e. cc) record { up = λ e. cc; words = untold_if now.words _ (rw strange.words strange.untold) } strange (refl, refl)
   made_here (Damaged place) (reply_is.Damaged word) (same, strange) =
-      strange_handled (reply_is.Damaged word) (record { phase = Damaged place; pad = pad }) (λ e. cc) record { up = λ e. strange.up; words = untold_if now.words _ (rw strange.words strange.untold) } strange
+      strange_handled (reply_is.Damaged word) (record { phase = Damaged place; pad = pad }) (λ e. cc) record { up = λ e. strange.calls.up; words = untold_if now.words _ (rw strange.words strange.untold) } strange
       (ap (λ (w : ℕ). Some (recovered.Damaged w)) (sym same), refl)
   made_here _ _ begun = absurd begun
 

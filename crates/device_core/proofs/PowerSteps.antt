@@ -1,11 +1,11 @@
 -- The power of a device comes.
-use Rattle.std.proofs.Common.{◌≡◌, ◌≢◌, ℕ, ◌≤◌, true, false, List, Option, Some, None, IfSome, refl, sym, ap, arith, subst}
+use Rattle.std.proofs.Common.{◌≡◌, ◌≢◌, ℕ, true, false, List, Option, Some, None, IfSome, refl, sym, ap, ◌∙◌, subst}
 use Rattle.paygo_spec.specs.declared.Event.TheVariants.{Power}
 use Rattle.paygo_spec.specs.declared.Reply.{Reply}
 use Rattle.paygo_spec.specs.declared.Reply.TheVariants as reply_is
-use Rattle.paygo_spec.specs.Calls.{Passed, Failed}
+use Rattle.paygo_spec.specs.Flash.{Passed, Failed, FlashView}
 use Rattle.paygo_spec.specs.Faults.{Rose}
-use Rattle.paygo_spec.specs.Flash.{FlashView}
+use Rattle.paygo_spec.proofs.Plans.{plan_passed, plan_failed}
 use Rattle.paygo_spec.specs.Pad.{PadView, no_keys, kept_of}
 use Rattle.paygo_spec.specs.Recovery.{JournalView, Recovered, recover}
 use Rattle.paygo_spec.specs.Recovery as recovered
@@ -16,7 +16,7 @@ use Rattle.device_core.specs.declared.device.Phase.TheVariants.{Off, Unmade, Dam
 use Rattle.device_core.specs.Memory.{Fits, is_on, Backs, Agrees, Costs}
 use Rattle.device_core.specs.Changes.{Starts, greeting_of, Handled, off_device, settled}
 use Rattle.device_core.proofs.Stands.{stands_as, journal_is}
-use Rattle.device_core.proofs.Handling.{off_holds}
+use Rattle.device_core.proofs.Handling.{no_fault, off_holds}
 use Rattle.device_core.proofs.Recalling.{powers_by}
 
 -- the words of a blank flash are those of no device
@@ -40,11 +40,12 @@ module _ (next : List ℕ → ℕ → ℕ) (old : Device) (was now : FlashView) 
   off_started : Starts Off was now → Handled next Power old was (Some reply_is.Down) off_device now
   off_started (same, failed, short) = record {
     holds = off_holds now;
-    later = failed.later;
-    down = λ e. record { off = refl; cleared = refl; rose = failed.rose };
+    faults = failed.rose;
+    plan = plan_failed 514 was now failed;
+    down = λ e. record { off = refl; cleared = refl };
     step = λ state agrees. (
       record { on = false; stored = state.stored; keys = no_keys; faults = now.faults },
-      (refl, record { off = refl; cleared = refl; later = (let f = agrees.stand.faults in let l = failed.later in omega arith); rose = subst (λ (n : ℕ). Rose n now.faults) (sym agrees.stand.faults) failed.rose }),
+      (refl, record { off = refl; cleared = refl; rose = subst (λ (n : ℕ). Rose n now.faults) (sym agrees.stand.faults) failed.rose }),
       record { on_is = refl; pad_is = refl; stand = record { words = subst (λ (w : Option (List ℕ)). Stands w state.stored) (sym same) agrees.stand.words; faults = refl } },
     );
     calls = λ state agrees. failed_calls state.stored agrees.stand.words failed short;
@@ -55,7 +56,7 @@ module _ (next : List ℕ → ℕ → ℕ) (old : Device) (was now : FlashView) 
   -- the device is on, and what it found stands for what the machine says
   module _ (phase : Phase) (found : Recovered) (on : is_on (record { phase = phase; pad = kept_of no_keys }) ≡ true) (same : now.words ≡ was.words) (backs : IfSome was.words (λ words. recover words ≡ found))
       (backs_is : (words : List ℕ) → recover words ≡ found → Backs phase words)
-      (fits_is : (stored : Stored) → Fits phase stored → StandsAs found stored) (fits : (stored : Stored) × Fits phase stored) (up : now.up ≡ true) (later : was.faults ≤ now.faults) where
+      (fits_is : (stored : Stored) → Fits phase stored → StandsAs found stored) (fits : (stored : Stored) × Fits phase stored) (calls : ℕ) (passed : Passed calls was now) where
     abbrev new : Device
     new = record { phase = phase; pad = kept_of no_keys }
 
@@ -69,13 +70,14 @@ module _ (next : List ℕ → ℕ → ℕ) (old : Device) (was now : FlashView) 
         let at : (state : State) → Agrees old was state → (reply ≡ reply_to_power state.stored) × Costs (calls_of_power state.stored) (Some reply) was now =
         (λ state agrees. says state.stored (stands_as was.words found state.stored backs agrees.stand.words)) in
         record {
-          holds = record { up = λ e. up; words = subst (λ (w : Option (List ℕ)). IfSome w (Backs phase)) (sym same) (backed was.words backs) };
-          later = later;
+          holds = record { up = λ e. passed.up; words = subst (λ (w : Option (List ℕ)). IfSome w (Backs phase)) (sym same) (backed was.words backs) };
+          faults = no_fault (Some reply) was.faults now.faults (λ e. fair cc) passed.faults;
+          plan = plan_passed calls was now passed;
           down = λ e. absurd (fair cc);
           step = λ state agrees.
               let after : State = record { on = true; stored = state.stored; keys = no_keys; faults = now.faults } in (
                 after,
-                acts reply state after fair (refl, (ap Some (at state agrees).0, record { on_is = refl; keys_are = refl; later = (let f = agrees.stand.faults in omega arith) })),
+                acts reply state after fair (refl, (ap Some (at state agrees).0, record { on_is = refl; keys_are = refl; faults_are = passed.faults ∙ sym agrees.stand.faults })),
                 record { on_is = sym on; pad_is = refl; stand = record { words = subst (λ (w : Option (List ℕ)). Stands w state.stored) (sym same) agrees.stand.words; faults = refl } },
               );
           calls = λ state agrees. (at state agrees).1;
@@ -107,11 +109,11 @@ module _ (next : List ℕ → ℕ → ℕ) (old : Device) (was now : FlashView) 
   started_here : (phase : Phase) → (stored : Stored) × Fits phase stored → Starts phase was now → Handled next Power old was (Some (greeting_of phase)) (settled (Some (greeting_of phase)) (record { phase = phase; pad = kept_of no_keys })) now
   started_here Off fits starts = off_started starts
   started_here Unmade fits (same, backs, passed) =
-      started Unmade recovered.Unmade refl same backs (λ words is. is) (λ stored fits. fits) fits passed.up passed.later reply_is.Unmade (λ e. cc) (unmade_says passed)
-  started_here (Damaged word) fits (same, backs, up, later) =
-      started (Damaged word) (recovered.Damaged word) refl same backs (λ words is. is) (λ stored fits. fits) fits up later (reply_is.Damaged word) (λ e. cc) (damaged_says word)
+      started Unmade recovered.Unmade refl same backs (λ words is. is) (λ stored fits. fits) fits 3 passed reply_is.Unmade (λ e. cc) (unmade_says passed)
+  started_here (Damaged word) fits (same, backs, (calls, passed)) =
+      started (Damaged word) (recovered.Damaged word) refl same backs (λ words is. is) (λ stored fits. fits) fits calls passed (reply_is.Damaged word) (λ e. cc) (damaged_says word)
   started_here (Up journal) fits (same, backs, passed) =
-      started (Up journal) (recovered.Made journal) refl same backs (λ words is. is) (λ stored fits. fits) fits passed.up passed.later (greeting_of (Up journal)) (λ e. cc) (up_says journal passed)
+      started (Up journal) (recovered.Made journal) refl same backs (λ words is. is) (λ stored fits. fits) fits 514 passed (greeting_of (Up journal)) (λ e. cc) (up_says journal passed)
 
   pub power_handled : (phase : Phase) (reply : Reply) (pad : PadView) → reply ≡ greeting_of phase → pad ≡ kept_of no_keys → (stored : Stored) × Fits phase stored → Starts phase was now
       → Handled next Power old was (Some reply) (settled (Some reply) (record { phase = phase; pad = pad })) now

@@ -1,14 +1,14 @@
 -- A device does as the machine does by what it has in memory, and where its flash tells words, by those too.
-use Rattle.std.proofs.Common.{◌≡◌, ◌≢◌, ℕ, ◌≤◌, Bool, true, List, Option, Some, IfSome, refl, sym, ap, ◌∙◌, subst}
+use Rattle.std.proofs.Common.{◌≡◌, ◌≢◌, ℕ, Bool, true, List, Option, Some, IfSome, refl, sym, ap, ◌∙◌, subst}
 use Rattle.paygo_spec.specs.declared.Config.{Config}
 use Rattle.paygo_spec.specs.declared.Event.{Event}
 use Rattle.paygo_spec.specs.declared.Event.TheVariants.{Power, Make}
 use Rattle.paygo_spec.specs.declared.Reply.{Reply}
 use Rattle.paygo_spec.specs.declared.Reply.TheVariants as reply_is
-use Rattle.paygo_spec.specs.Flash.{FlashView}
+use Rattle.paygo_spec.specs.Flash.{FlashView, KeepsPlan}
 use Rattle.paygo_spec.specs.Pad.{no_keys, kept_of}
 use Rattle.paygo_spec.specs.Recovery as recovered
-use Rattle.paygo_spec.specs.Machine.{Stored, State, Stands, Acts, ActsIf, GoesBy, Replies, keys_after, calls_on, reply_to_power}
+use Rattle.paygo_spec.specs.Machine.{Stored, State, Stands, Acts, ActsIf, GoesBy, FaultsBy, Replies, keys_after, calls_on, reply_to_power}
 use Rattle.device_core.specs.declared.device.Device.{Device}
 use Rattle.device_core.specs.declared.device.Phase.{Phase}
 use Rattle.device_core.specs.declared.device.Phase.TheVariants.{Off, Unmade, Damaged, Up}
@@ -90,11 +90,12 @@ module _ (next : List ℕ → ℕ → ℕ) (event : Event) (other : event ≢ Po
         (says state (recalls_of old was state holds agrees)).1
 
     -- a device that is on handles an event but Power
-    pub handled_on : Holds new now → was.faults ≤ now.faults → (reply ≡ Some reply_is.Down → IsDown old was new now)
+    pub handled_on : Holds new now → FaultsBy reply was.faults now.faults → KeepsPlan was now → (reply ≡ Some reply_is.Down → IsDown new)
         → (RecallsBy next event old was reply new now → Remembers next event old was reply new now) → Handled next event old was reply new now
-    handled_on kept later down remembers = record {
+    handled_on kept faults plan down remembers = record {
       holds = kept;
-      later = later;
+      faults = faults;
+      plan = plan;
       down = down;
       step = does steps;
       calls = costs;

@@ -1,5 +1,5 @@
 -- What told words stand for.
-use Rattle.std.proofs.Common.{◌≡◌, ℕ, List, [], Option, Some, None, IfSome, refl, sym, subst}
+use Rattle.std.proofs.Common.{◌≡◌, ℕ, List, Option, Some, None, IfSome, refl, sym, subst}
 use Rattle.paygo_spec.specs.declared.Config.{Config}
 use Rattle.paygo_spec.specs.Clock.{unit_of}
 use Rattle.paygo_spec.specs.Flash.{Becomes}
@@ -11,6 +11,7 @@ use Rattle.paygo_spec.specs.Recovery.{JournalView, Recovered, recover}
 use Rattle.paygo_spec.specs.Recovery as recovered
 use Rattle.paygo_spec.proofs.Snapshots.{snapshot_start}
 use Rattle.paygo_spec.specs.Machine.{History, Stored, Journal, StandsAs, Stands, unit_for}
+use Rattle.device_core.specs.Decided.{history_from}
 
 -- words on which this was found stand for what it stands for, and for nothing else
 pub stands_as : (words : Option (List ℕ)) (found : Recovered) (stored : Stored) → IfSome words (λ words. recover words ≡ found) → Stands words stored → StandsAs found stored
@@ -51,8 +52,8 @@ journal_is journal history (config, at, summary, lawful) =
     (subst (λ (s : Summary). journal ≡ record { bank = journal.bank; at = journal.at; config = journal.config; summary = s }) summary refl))
 
 -- a device whose summary keeps the rules has the history that starts with it
-pub history_from : (journal : JournalView) → IsSummary journal.summary → (stored : Stored) × StandsAs (recovered.Made journal) stored
-history_from journal rule = (
-  Journal (record { config = journal.config; start = journal.summary; entries = []; at = journal.at }),
+pub has_history : (journal : JournalView) → IsSummary journal.summary → (stored : Stored) × StandsAs (recovered.Made journal) stored
+has_history journal rule = (
+  Journal (history_from journal),
   (refl, refl, sym (snapshot_start (unit_of journal.config.divider) journal.summary rule), rule),
 )

@@ -1,5 +1,5 @@
 -- A device that is off, isn't made, or is damaged handles an event.
-use Rattle.std.proofs.Common.{◌≡◌, ◌≢◌, ℕ, Bool, true, false, List, Option, Some, None, refl, sym, ap, ◌∙◌, arith, subst}
+use Rattle.std.proofs.Common.{◌≡◌, ◌≢◌, ℕ, Bool, true, false, List, Option, Some, None, refl, sym, ap, ◌∙◌, subst}
 use Rattle.paygo_spec.specs.declared.Config.{Config}
 use Rattle.paygo_spec.specs.declared.Event.{Event}
 use Rattle.paygo_spec.specs.declared.Event.TheVariants.{Power, Make, Key, Tick, Show, Raise}
@@ -8,6 +8,7 @@ use Rattle.paygo_spec.specs.declared.Reply.TheVariants as reply_is
 use Rattle.paygo_spec.specs.Flash.{FlashView}
 use Rattle.paygo_spec.specs.Pad.{Keys, PadView, kept_of}
 use Rattle.paygo_spec.specs.Recovery as recovered
+use Rattle.paygo_spec.proofs.Plans.{plan_stays}
 use Rattle.paygo_spec.specs.Machine.{Stored, Blank, Broken, Journal, StandsAs, State, Acts, ActsIf, Replies, only, keys_after, calls_on, calls_of}
 use Rattle.device_core.specs.declared.device.Device.{Device}
 use Rattle.device_core.specs.declared.device.Phase.{Phase}
@@ -15,7 +16,7 @@ use Rattle.device_core.specs.declared.device.Phase.TheVariants.{Off, Unmade, Dam
 use Rattle.device_core.specs.Memory.{is_on, Holds, Recalls, Costs}
 use Rattle.device_core.specs.Changes.{Handled, settled}
 use Rattle.device_core.proofs.Going.{costs_none}
-use Rattle.device_core.proofs.Handling.{goes_on, settled_other, only_fair}
+use Rattle.device_core.proofs.Handling.{goes_on, no_fault, settled_other, only_fair}
 use Rattle.device_core.proofs.Recalling.{Steps, Reacts, does, recalls, remembers_made, remembers_unmade, handled_on}
 
 abbrev of_phase : Phase → PadView → Device
@@ -24,7 +25,7 @@ of_phase phase pad = record { phase = phase; pad = pad }
 -- a device that is off answers nothing
 off_if : (next : List ℕ → ℕ → ℕ) (event : Event) (state : State) → state.on ≡ false → ActsIf state.on next event None state state
 off_if next event state off =
-    subst (λ (b : Bool). ActsIf b next event None state state) (sym off) (refl, refl, record { on_is = off; keys_are = refl; later = omega arith })
+    subst (λ (b : Bool). ActsIf b next event None state state) (sym off) (refl, refl, record { on_is = off; keys_are = refl; faults_are = refl })
 
 off_acts : (next : List ℕ → ℕ → ℕ) (event : Event) (state : State) → event ≢ Power → state.on ≡ false → Acts next event None state state
 off_acts next Power state other off = absurd (other refl)
@@ -46,7 +47,8 @@ off_handled next event phase pad was other is holds =
     (λ state recalled. (state, off_acts next event state other (recalled.on_is ∙ off), recalled, λ stands. stands)) in
     record {
       holds = holds;
-      later = omega arith;
+      faults = refl;
+      plan = plan_stays was was refl refl;
       down = λ e. cc;
       step = does next event other (of_phase phase pad) was None (of_phase phase pad) was holds steps;
       calls = λ state agrees.
@@ -87,7 +89,7 @@ module _ (next : List ℕ → ℕ → ℕ) (event : Event) (other : event ≢ Po
       let now : State = record { on = true; stored = state.stored; keys = keys_after state.stored event state.keys; faults = was.faults } in (
         now,
         replies,
-        goes_on reply (keys_after state.stored event state.keys) state now fair record { on_is = refl; keys_are = refl; later = (let same = recalled.faults_are in omega arith) },
+        goes_on reply (keys_after state.stored event state.keys) state now fair record { on_is = refl; keys_are = refl; faults_are = sym recalled.faults_are },
         record {
           on_is = sym on;
           pad_is = told state.keys recalled.pad_is ∙ ap kept_of keys;
@@ -127,7 +129,8 @@ module _ (next : List ℕ → ℕ → ℕ) (event : Event) (other : event ≢ Po
       let fair : reply ≢ Some reply_is.Down = (λ e. only_fair event reply_is.Unmade (λ d. cc) (sym is ∙ e)) in
       subst (λ (d : Device). Handled next event (of_phase Unmade before) was reply d was) (sym (settled_other reply (of_phase Unmade after) fair))
       (handled_on next event other (of_phase Unmade before) was reply (of_phase Unmade after) was holds refl
-      (λ state recalled. blank_by not_make state.on state.stored state.keys state.faults recalled.fits is recalled) record { up = holds.up; words = holds.words } (omega arith) (λ e. absurd (fair e))
+      (λ state recalled. blank_by not_make state.on state.stored state.keys state.faults recalled.fits is recalled) record { up = holds.up; words = holds.words }
+      (no_fault reply was.faults was.faults fair refl) (plan_stays was was refl refl) (λ e. absurd (fair e))
       (remembers_unmade next event (of_phase Unmade before) was reply (of_phase Unmade after) was other not_make))
 
   broken_here : (word : ℕ) → Holds (of_phase (Damaged word) before) was → reply ≡ only event (reply_is.Damaged word)
@@ -136,7 +139,8 @@ module _ (next : List ℕ → ℕ → ℕ) (event : Event) (other : event ≢ Po
       let fair : reply ≢ Some reply_is.Down = (λ e. only_fair event (reply_is.Damaged word) (λ d. cc) (sym is ∙ e)) in
       subst (λ (d : Device). Handled next event (of_phase (Damaged word) before) was reply d was) (sym (settled_other reply (of_phase (Damaged word) after) fair))
       (handled_on next event other (of_phase (Damaged word) before) was reply (of_phase (Damaged word) after) was holds refl
-      (λ state recalled. broken_by word state.on state.stored state.keys state.faults recalled.fits is recalled) record { up = holds.up; words = holds.words } (omega arith) (λ e. absurd (fair e))
+      (λ state recalled. broken_by word state.on state.stored state.keys state.faults recalled.fits is recalled) record { up = holds.up; words = holds.words }
+      (no_fault reply was.faults was.faults fair refl) (plan_stays was was refl refl) (λ e. absurd (fair e))
       (remembers_made next event (of_phase (Damaged word) before) was reply (of_phase (Damaged word) after) was other (λ e. cc)))
 
   pub blank_handled : (phase : Phase) → phase ≡ Unmade → Holds (of_phase phase before) was → ((config : Config) → event ≢ Make config) → reply ≡ only event reply_is.Unmade

@@ -5,9 +5,7 @@ use Rattle.paygo_spec.specs.declared.Event.{Event}
 use Rattle.paygo_spec.specs.declared.Event.TheVariants.{Power, Make}
 use Rattle.paygo_spec.specs.declared.Reply.{Reply}
 use Rattle.paygo_spec.specs.declared.Reply.TheVariants as reply_is
-use Rattle.paygo_spec.specs.Faults.{Rose}
-use Rattle.paygo_spec.specs.Flash.{FlashView}
-use Rattle.paygo_spec.specs.Calls.{DueAfter, DueWithin}
+use Rattle.paygo_spec.specs.Flash.{FlashView, DueAfter, DueWithin}
 use Rattle.paygo_spec.specs.Pad.{no_keys, kept_of}
 use Rattle.paygo_spec.specs.Recovery.{Recovered, recover}
 use Rattle.paygo_spec.specs.Recovery as recovered
@@ -39,21 +37,20 @@ pub record Holds (device : Device) (flash : FlashView) : Type 0 where
   pub up : is_on device ≡ true → flash.up ≡ true
   pub words : IfSome flash.words (Backs device.phase)
 
--- Device and flash stand for this state of the machine. The device's `pad`, which its contracts name too, is what it keeps
--- of the keys that were pressed since the pad was last cleared.
+-- Device and flash stand for this state of the machine. The device's `pad`, which its contracts name too, is what it
+-- keeps of the keys that were pressed since the pad was last cleared.
 pub record Agrees (device : Device) (flash : FlashView) (state : State) : Type 0 where
   pub on_is : state.on ≡ is_on device
   pub pad_is : device.pad ≡ kept_of state.keys
   pub stand : Stand flash state
 
--- The flash failed in this event, and the device is off, with a cleared pad.
-pub record IsDown (old : Device) (was : FlashView) (new : Device) (now : FlashView) : Type 0 where
-  pub off : is_on new ≡ false
-  pub cleared : new.pad ≡ kept_of no_keys
-  pub rose : Rose was.faults now.faults
+-- The device is off, with a cleared pad.
+pub record IsDown (device : Device) : Type 0 where
+  pub off : is_on device ≡ false
+  pub cleared : device.pad ≡ kept_of no_keys
 
--- Whatever device and flash stand for, the reply to this event is one that the machine may give, and device and flash go
--- on to what it goes on to.
+-- Whatever device and flash stand for, the reply to this event is one that the machine may give, and device and flash
+-- go on to what it goes on to.
 abbrev pub Does : (List ℕ → ℕ → ℕ) → Event → Device → FlashView → Option Reply → Device → FlashView → Type 0
 Does next event old was reply new now =
     (state : State) → Agrees old was state → (after : State) × Acts next event reply state after × Agrees new now after
@@ -67,22 +64,23 @@ Costs (Some calls) reply was now = DueAfter calls was.due now.due
 
 -- The calls that an event makes are those that the specification says, whatever device and flash stand for.
 abbrev pub CostsAsSaid : (List ℕ → ℕ → ℕ) → Event → Device → FlashView → Option Reply → FlashView → Type 0
-CostsAsSaid next event old was reply now = (state : State) → Agrees old was state → Costs (calls_of next state event) reply was now
+CostsAsSaid next event old was reply now =
+    (state : State) → Agrees old was state → Costs (calls_of next state event) reply was now
 
 -- What the device found or left on its flash stands for this.
 abbrev pub Fits : Phase → Stored → Type 0
 Fits phase stored = IfSome (found_by phase) (λ found. StandsAs found stored)
 
--- The device has this state of the machine in memory, whatever its flash tells: a history that what it found or left there
--- can stand for, the keys of its pad, and the flash's count of faults.
+-- The device has this state of the machine in memory, whatever its flash tells: a history that what it found or left
+-- there can stand for, the keys of its pad, and the flash's count of faults.
 pub record Recalls (device : Device) (flash : FlashView) (state : State) : Type 0 where
   pub on_is : state.on ≡ is_on device
   pub pad_is : device.pad ≡ kept_of state.keys
   pub fits : Fits device.phase state.stored
   pub faults_are : state.faults ≡ flash.faults
 
--- The power came: the flash failed, and the device is off; or it is on, with a cleared pad, and what it found stands for
--- something, as of which it answers, whatever that is.
+-- The power came: the flash failed, and the device is off; or it is on, with a cleared pad, and what it found stands
+-- for something, as of which it answers, whatever that is.
 abbrev pub PowersBy : Option Reply → Device → Type 0
 PowersBy (Some reply_is.Down) new = is_on new ≡ false
 PowersBy reply new =
@@ -90,23 +88,27 @@ PowersBy reply new =
     × ((stored : Stored) → Fits new.phase stored → reply ≡ Some (reply_to_power stored))
 
 -- A device that isn't made is asked to be. The flash failed, and the device is off; or it is made, and up; or, where
--- another wrote the flash in the meantime, the device says so: on a damaged flash it is damaged, and where it meets another
--- device it is off.
+-- another wrote the flash in the meantime, the device says so: on a damaged flash it is damaged, and where it meets
+-- another device it is off.
 abbrev pub MakesBy : Config → Option Reply → Device → Device → Type 0
 MakesBy config (Some reply_is.Down) old new = is_on new ≡ false
-MakesBy config (Some (reply_is.Damaged place)) old new = (found_by new.phase ≡ Some (recovered.Damaged place)) × (new.pad ≡ old.pad)
+MakesBy config (Some (reply_is.Damaged place)) old new =
+    (found_by new.phase ≡ Some (recovered.Damaged place)) × (new.pad ≡ old.pad)
 MakesBy config (Some (reply_is.Made number)) old new = (is_on new ≡ false) × (new.pad ≡ old.pad)
 MakesBy config reply old new =
-    (reply ≡ Some (reply_is.Up 0 0 false 0)) × (found_by new.phase ≡ Some (recovered.Made (new_journal config))) × (new.pad ≡ old.pad)
+    (reply ≡ Some (reply_is.Up 0 0 false 0)) × (found_by new.phase ≡ Some (recovered.Made (new_journal config)))
+    × (new.pad ≡ old.pad)
 
 -- Any other event is a step of the machine, from whatever the device has in memory to what it has there then.
 abbrev pub RecallsBy : (List ℕ → ℕ → ℕ) → Event → Device → FlashView → Option Reply → Device → FlashView → Type 0
 RecallsBy next event old was reply new now =
-    (state : State) → Recalls old was state → (after : State) × Acts next event reply state after × Recalls new now after
+    (state : State) → Recalls old was state
+    → (after : State) × Acts next event reply state after × Recalls new now after
 
 -- What the device answers, and has in memory then, follows what it has in memory, also where its flash tells no words.
 abbrev pub Remembers : (List ℕ → ℕ → ℕ) → Event → Device → FlashView → Option Reply → Device → FlashView → Type 0
 Remembers next Power old was reply new now = PowersBy reply new
 Remembers next (Make config) old was reply new now =
-    (old.phase ≡ Unmade → MakesBy config reply old new) × ((old.phase ≡ Unmade → ⊥) → RecallsBy next (Make config) old was reply new now)
+    (old.phase ≡ Unmade → MakesBy config reply old new)
+    × ((old.phase ≡ Unmade → ⊥) → RecallsBy next (Make config) old was reply new now)
 Remembers next event old was reply new now = RecallsBy next event old was reply new now

@@ -1,8 +1,9 @@
 // What an event comes to on a device that was made. Nothing here touches the flash.
-ghost use Rattle.std.specs.Prelude.{◌≡◌, ◌≢◌, IfSome};
-ghost use Rattle.paygo_spec.specs.Machine.{IsEvent, History, Journal as JournalOf, keys_after};
-ghost use Rattle.paygo_spec.specs.Pad.{Keys, IsKey, after_key, kept_of};
-ghost use Rattle.device_core.specs.Decided.{MayDo, decided, decided_entry, decided_found, decided_key, decided_raise, decided_seconds, decided_token, found_in, unit_in};
+ghost use Rattle.std.specs.Prelude.{◌≡◌, ◌≢◌, ◌≤◌, Some, IfSome};
+ghost use Rattle.paygo_spec.specs.Digits.{value_of};
+ghost use Rattle.paygo_spec.specs.Machine.{IsEvent, History, Journal as JournalOf, effect_of_raise, effect_of_seconds, keys_after};
+ghost use Rattle.paygo_spec.specs.Pad.{Keys, IsKey, after_key, handed_over, held_of, kept_of};
+ghost use Rattle.device_core.specs.Decided.{MayDo, decided, decision_of, history_from};
 
 use crate::replies::{reply_to_time, show_same, shown};
 use bank_journal::Journal;
@@ -49,7 +50,8 @@ pub(crate) fn decide<M: Mixer>(journal: &Journal, pad: &mut Pad, event: Event) -
 // A key is pressed. `#` hands the entry over.
 fn decide_key<M: Mixer>(journal: &Journal, pad: &mut Pad, key: u8) -> Option<Decision>
     requires { IsKey key }
-    ensures decision { (keys : Keys) → pad.old ≡ kept_of keys → result ≡ decided_key M.next journal.now keys key }
+    ensures decision { (keys : Keys) → pad.old ≡ kept_of keys →
+        result ≡ decided M.next journal.now keys (Event.Key key) }
     ensures pad { (keys : Keys) → pad.old ≡ kept_of keys → pad.new ≡ kept_of (after_key key keys) }
     ensures may { IfSome result (MayDo journal.now) }
 {
@@ -59,9 +61,12 @@ fn decide_key<M: Mixer>(journal: &Journal, pad: &mut Pad, key: u8) -> Option<Dec
     }
 }
 
-// Judges an entry: first its length, then its digits, then what `decide_token` looks at.
+// Judges an entry: first its length, then its digits, then what `decide_token` looks at. Where a pad hands it over,
+// that is what is decided of the keys at `#`.
 fn decide_entry<M: Mixer>(journal: &Journal, digits: &[u8; 15], held: u8) -> Decision
-    ensures { result ≡ decided_entry M.next journal.now digits.now held }
+    ensures decision { (keys : Keys) → digits.now ≡ handed_over keys.pressed → held ≡ held_of keys →
+        Some result ≡ decided M.next journal.now keys (Event.Key 35) }
+    ensures may { MayDo journal.now result }
 {
     let form = journal.config().form;
     let count = usize::from(held);
@@ -75,9 +80,11 @@ fn decide_entry<M: Mixer>(journal: &Journal, digits: &[u8; 15], held: u8) -> Dec
     }
 }
 
-// Judges a token: a block is told before it is searched for.
+// Judges a token, which the pressed keys say: a block is told before it is searched for.
 fn decide_token<M: Mixer>(journal: &Journal, token: u32) -> Decision
-    ensures { result ≡ decided_token M.next journal.now token }
+    ensures decision { (keys : Keys) → value_of journal.now.config.form keys.pressed ≡ Some token →
+        Some result ≡ decided M.next journal.now keys (Event.Key 35) }
+    ensures may { MayDo journal.now result }
 {
     let block = journal.summary().clock.block();
     if block > 0 {
@@ -89,7 +96,9 @@ fn decide_token<M: Mixer>(journal: &Journal, token: u32) -> Decision
 // Searches for a token, where entries aren't blocked.
 fn search<M: Mixer>(journal: &Journal, token: u32) -> Decision
     requires { journal.now.summary.block ≡ 0 }
-    ensures { result ≡ decided_found journal.now (found_in M.next journal.now token) }
+    ensures decision { (keys : Keys) → value_of journal.now.config.form keys.pressed ≡ Some token →
+        Some result ≡ decided M.next journal.now keys (Event.Key 35) }
+    ensures may { MayDo journal.now result }
 {
     let config = journal.config();
     match find::<M>(&config.key, config.start, &journal.summary().window, token) {
@@ -101,7 +110,7 @@ fn search<M: Mixer>(journal: &Journal, token: u32) -> Decision
 
 // The device is to be raised. Once it was, nothing changes.
 fn decide_raise(journal: &Journal) -> Decision
-    ensures decision { result ≡ decided_raise journal.now.summary }
+    ensures decision { Some result ≡ decision_of (effect_of_raise (history_from journal.now)) }
     ensures may { MayDo journal.now result }
 {
     if journal.summary().window.limit() == GREAT {
@@ -113,7 +122,9 @@ fn decide_raise(journal: &Journal) -> Decision
 
 // Seconds pass.
 fn decide_seconds(journal: &Journal, seconds: u32) -> Decision
-    ensures { result ≡ decided_seconds (unit_in journal.now) journal.now.summary seconds }
+    requires { seconds ≤ 999999999 }
+    ensures decision { Some result ≡ decision_of (effect_of_seconds (history_from journal.now) seconds) }
+    ensures may { MayDo journal.now result }
 {
     let before = journal.summary().clock;
     let mut clock = before;

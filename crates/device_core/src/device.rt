@@ -29,9 +29,10 @@ pub struct Device {
 }
 
 impl Device {
-    ghost use Rattle.std.specs.Prelude.{◌≡◌, ◌≢◌, ◌≤◌, ℕ, List, true, false, Some, IfSome};
+    ghost use Rattle.std.specs.Prelude.{◌≡◌, ◌≢◌, ℕ, List, true, false, Some, IfSome};
     ghost use Rattle.paygo_spec.specs.Pad.{kept_of, no_keys};
-    ghost use Rattle.paygo_spec.specs.Machine.{IsEvent, IsConfig};
+    ghost use Rattle.paygo_spec.specs.Flash.{KeepsPlan};
+    ghost use Rattle.paygo_spec.specs.Machine.{IsEvent, IsConfig, FaultsBy};
     ghost use Rattle.device_core.specs.Memory.{is_on, Holds, IsDown, Does, CostsAsSaid, Remembers};
     ghost use Rattle.device_core.specs.Changes.{Handled, settled};
 
@@ -46,29 +47,32 @@ impl Device {
         }
     }
 
-    /// One event. The reply, or that there is none, is what the machine of the specification may give, and what the device
-    /// holds in memory and what its flash stands for afterwards is what that machine goes on to.
+    /// One event. The reply, or that there is none, is what the machine of the specification may give, and what the
+    /// device holds in memory and what its flash stands for afterwards is what that machine goes on to.
     ///
-    /// A device that is off answers nothing but to `Power`. An entry at the keypad is judged in this order: its length, its
-    /// digits, a block, whether it is old; then, where it changes the state, whether the flash has room, and whether the
-    /// flash fails; then it is accepted or invalid. A tick is told to the pad before it does anything else.
+    /// A device that is off answers nothing but to `Power`. An entry at the keypad is judged in this order: its length,
+    /// its digits, a block, whether it is old; then, where it changes the state, whether the flash has room, and
+    /// whether the flash fails; then it is accepted or invalid. A tick is told to the pad before it does anything else.
     ///
-    /// The caller sees to it that the event is one that may be asked for, and that a device that is on is handed the flash
-    /// as it left it. An accepted, invalid or ticked reply comes only when the flash stands for the history with the event.
-    /// `Down` comes only where the flash's count of faults rose in this call, or stands at 2^64 - 1, and leaves the device
-    /// off; where the flash tells its words and its due, it comes exactly where the due is below the number of calls that the
-    /// event makes, which is said but for `Power` on a damaged flash. `Worn` leaves the history as it was, and `Power` every
-    /// word, also of a damaged flash.
+    /// The caller sees to it that the event is one that may be asked for, and that a device that is on is handed the
+    /// flash as it left it. An accepted, invalid or ticked reply comes only when the flash stands for the history with
+    /// the event. `Down` is one fault of the flash, which counted it, and leaves the device off, with a cleared pad;
+    /// any other reply, and none, is no fault. Where the flash tells its due, a failure that was planned came or is
+    /// still to come, and no other came. Where it tells its words too, `Down` comes exactly where the due is below the
+    /// number of calls that the event makes, which is said but for `Power` on a damaged flash. `Worn` leaves the
+    /// history as it was, and `Power` every word, also of a damaged flash.
     ///
-    /// Over a flash that tells no words, as a file tells none, the replies still follow what the device has in memory: what it
-    /// found when its power came, and what it did since then. Where such a flash was written by another in the meantime, a
-    /// device that isn't made says at `Make` what it finds: that it is damaged, or that a device was made, and then it is off.
+    /// Over a flash that tells no words, as a file tells none, the replies still follow what the device has in memory:
+    /// what it found when its power came, and what it did since then. Where such a flash was written by another in the
+    /// meantime, a device that isn't made says at `Make` what it finds: that it is damaged, or that a device was made,
+    /// and then it is off.
     pub fn event<M: Mixer, F: Flash>(&mut self, flash: &mut F, event: Event) -> Option<Reply>
         requires event { IsEvent event }
         requires holds { Holds self.old (F.view flash.old) }
         ensures holds { Holds self.new (F.view flash.new) }
-        ensures later { (F.view flash.old).faults ≤ (F.view flash.new).faults }
-        ensures down { result ≡ Some Reply.Down → IsDown self.old (F.view flash.old) self.new (F.view flash.new) }
+        ensures faults { FaultsBy result (F.view flash.old).faults (F.view flash.new).faults }
+        ensures plan { KeepsPlan (F.view flash.old) (F.view flash.new) }
+        ensures down { result ≡ Some Reply.Down → IsDown self.new }
         ensures step { Does M.next event self.old (F.view flash.old) result self.new (F.view flash.new) }
         ensures calls { CostsAsSaid M.next event self.old (F.view flash.old) result (F.view flash.new) }
         ensures kept { event ≡ Event.Power → (F.view flash.new).words ≡ (F.view flash.old).words }
@@ -103,7 +107,8 @@ impl Device {
     // The power comes on, or comes back.
     fn power<F: Flash>(&mut self, flash: &mut F) -> Reply
         ensures { (next : List ℕ → ℕ → ℕ) →
-            Handled next Event.Power self.old (F.view flash.old) (Some result) (settled (Some result) self.new) (F.view flash.new) }
+            Handled next Event.Power self.old (F.view flash.old) (Some result)
+            (settled (Some result) self.new) (F.view flash.new) }
     {
         let phase = start(flash);
         let reply = greeting(&phase);
@@ -153,7 +158,8 @@ impl Device {
         requires unmade { self.old.phase ≡ Phase.Unmade }
         requires holds { Holds self.old (F.view flash.old) }
         ensures { (next : List ℕ → ℕ → ℕ) →
-            Handled next (Event.Make config.now) self.old (F.view flash.old) (Some result) (settled (Some result) self.new) (F.view flash.new) }
+            Handled next (Event.Make config.now) self.old (F.view flash.old) (Some result)
+            (settled (Some result) self.new) (F.view flash.new) }
     {
         let (phase, reply) = begin(flash, config);
         self.phase = phase;

@@ -1,11 +1,13 @@
 // The replies of a device that was made, by what its journal says.
-ghost use Rattle.std.specs.Prelude.{◌≡◌};
-ghost use Rattle.paygo_spec.specs.Machine.{reply_to_entry, reply_to_set, shows_same};
-ghost use Rattle.device_core.specs.Decided.{shown_by};
+ghost use Rattle.std.specs.Prelude.{◌≡◌, ◌≢◌};
+ghost use Rattle.paygo_spec.specs.History.{kind_of};
+ghost use Rattle.paygo_spec.specs.Machine.{reply_to_entry, reply_to_token, shown as shown_of, shows_same};
+ghost use Rattle.paygo_spec.specs.Pad.{Keys, held_of};
+ghost use Rattle.device_core.specs.Decided.{history_from};
 
 use bank_journal::Journal;
 use paid_clock::Clock;
-use paygo_spec::{Entry, Reply};
+use paygo_spec::{Entry, Reply, TokenKind};
 
 // Whether two clocks show the same time left and block.
 pub(crate) fn show_same(now: &Clock, before: &Clock) -> bool
@@ -25,20 +27,24 @@ pub(crate) fn reply_to_time(clock: &Clock) -> Reply
     }
 }
 
-// The reply to an accepted set token, by the clock after it.
-fn reply_to_set_token(count: u16, value: u16, clock: &Clock) -> Reply
-    ensures { result ≡ reply_to_set count value clock.now }
+// The reply to an accepted token of this count and value, by the clock after it.
+fn reply_to_accepted(count: u16, value: u16, clock: &Clock) -> Reply
+    ensures { result ≡ reply_to_token (kind_of count value) count value clock.now }
 {
-    if value <= 995 {
-        Reply::Set {
+    match TokenKind::of(count, value) {
+        Some(TokenKind::Add) => Reply::Added {
             count,
             value,
             left: clock.left(),
-        }
-    } else if value == 998 {
-        Reply::Free { count }
-    } else {
-        Reply::Synced { count }
+            free: clock.free(),
+        },
+        Some(TokenKind::Set) => Reply::Set {
+            count,
+            value,
+            left: clock.left(),
+        },
+        Some(TokenKind::Free) => Reply::Free { count },
+        Some(TokenKind::Sync) | None => Reply::Synced { count },
     }
 }
 
@@ -47,13 +53,7 @@ pub(crate) fn reply_to(entry: Entry, clock: &Clock) -> Reply
     ensures { result ≡ reply_to_entry entry clock.now }
 {
     match entry {
-        Entry::Accept { count, value } if count % 2 == 1 => reply_to_set_token(count, value, clock),
-        Entry::Accept { count, value } => Reply::Added {
-            count,
-            value,
-            left: clock.left(),
-            free: clock.free(),
-        },
+        Entry::Accept { count, value } => reply_to_accepted(count, value, clock),
         Entry::Bad => Reply::Invalid {
             block: clock.block(),
         },
@@ -64,7 +64,8 @@ pub(crate) fn reply_to(entry: Entry, clock: &Clock) -> Reply
 
 // What the device shows, with so many digits on its pad.
 pub(crate) fn shown(journal: &Journal, held: u8) -> Reply
-    ensures { result ≡ shown_by journal.now held }
+    ensures says { (keys : Keys) → held ≡ held_of keys → result ≡ shown_of (history_from journal.now) keys }
+    ensures fair { result ≢ Reply.Down }
 {
     let summary = journal.summary();
     let (count, _) = summary.window.parts();

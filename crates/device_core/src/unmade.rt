@@ -11,8 +11,8 @@ use keypad_entry::Pad;
 use paygo_outside::Flash;
 use paygo_spec::{Config, Event, Reply};
 
-// Any event but `Power`, and but that such a device is made: it has this one reply. Of the keys it takes `#` alone, which
-// clears the pad; a tick is told to the pad.
+// Any event but `Power`, and but that such a device is made: it has this one reply. Of the keys it takes `#` alone,
+// which clears the pad; a tick is told to the pad.
 pub(crate) fn answer_only(pad: &mut Pad, event: Event, reply: Reply) -> Option<Reply>
     requires { event ≢ Event.Power }
     ensures reply { result ≡ only event reply }

@@ -46,7 +46,8 @@ pub fn read(form: Form, digits: &[u8]) -> Result<u32, DigitFault>
         (λ token. (token < token_limit form) × (digits.now ≡ digits_of form token))
         (λ _. (token : ℕ) → token < token_limit form → digits.now ≢ digits_of form token) }
     ensures value { (token : ℕ) → (result ≡ Ok token) ↔ (value_of form digits.now ≡ Some token) }
-    ensures length { (n : ℕ) → (result ≡ Err (DigitFault.Length n)) ↔ ((n ≡ length digits.now) × (n ≢ digit_count form)) }
+    ensures length { (n : ℕ) →
+        (result ≡ Err (DigitFault.Length n)) ↔ ((n ≡ length digits.now) × (n ≢ digit_count form)) }
     ensures digit { (place : ℕ) → (result ≡ Err (DigitFault.Digit place)) ↔
         ((length digits.now ≡ digit_count form) × (first_fault form digits.now ≡ Some place)) }
 {
@@ -99,7 +100,8 @@ fn is_key(form: Form, byte: u8) -> bool
 /// Each digit stands for its part of the token: a decimal digit of it, or two of its 30 bits, the most significant
 /// first.
 pub fn digits_and_tokens()
-    ensures back { (form : Form) (token : ℕ) → token < token_limit form → value_of form (digits_of form token) ≡ Some token }
+    ensures back { (form : Form) (token : ℕ) → token < token_limit form →
+        value_of form (digits_of form token) ≡ Some token }
     ensures only { (form : Form) (digits : List ℕ) (token : ℕ) → value_of form digits ≡ Some token →
         (token < token_limit form) × (digits ≡ digits_of form token) }
     ensures none { (form : Form) (digits : List ℕ) → value_of form digits ≡ None →

@@ -12,8 +12,7 @@ use Rattle.paygo_spec.specs.declared.Form.{Form}
 use Rattle.paygo_spec.specs.declared.Form.TheVariants.{Nine, Fifteen}
 use Rattle.paygo_spec.specs.declared.Reply.{Reply}
 use Rattle.paygo_spec.specs.declared.Reply.TheVariants.{Down}
-use Rattle.paygo_spec.specs.Calls.{DueAfter, DueWithin}
-use Rattle.paygo_spec.specs.Flash.{FlashView, AreErased, erased_word}
+use Rattle.paygo_spec.specs.Flash.{DueAfter, DueWithin, FlashView, AreErased, erased_word}
 use Rattle.paygo_spec.specs.Digits.{numeral, digits_of}
 use Rattle.paygo_spec.specs.Pad.{IsKey, kept_of, no_keys}
 use Rattle.paygo_spec.specs.Recovery.{Recovered, Unmade, word_at, newest_bank, by_headers, recover}

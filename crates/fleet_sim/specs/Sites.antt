@@ -30,8 +30,8 @@ Follows next events answers old new =
     (site : Site) → StandsFor old site → (after : Site) × Happen next events answers site after × StandsFor new after
 
 -- These events happened, and their answers were counted.
-pub record Counts (next : List ℕ → ℕ → ℕ) (events : List Event) (old : SiteView) (before : Tally) (new : SiteView) (after : Tally)
-    : Type 0 where
+pub record Counts (next : List ℕ → ℕ → ℕ) (events : List Event) (old : SiteView) (before : Tally) (new : SiteView)
+    (after : Tally) : Type 0 where
   pub answers : List (Option Reply)
   pub tally_is : after ≡ counted answers before
   pub follows : Follows next events answers old new

@@ -43,7 +43,8 @@ planned_after calls (Some due) = if nat_lt due calls then None else Some (due - 
 -- among them.
 abbrev pub CutsByPlan : Option ℕ → Option Reply → Option ℕ → Option ℕ → Type 0
 CutsByPlan None answer old new = Unit {0}
-CutsByPlan (Some calls) answer old new = ((answer ≡ Some reply.Down) ↔ (falls_in calls old ≡ true)) × (new ≡ planned_after calls old)
+CutsByPlan (Some calls) answer old new =
+    ((answer ≡ Some reply.Down) ↔ (falls_in calls old ≡ true)) × (new ≡ planned_after calls old)
 
 -- An event happens to a device: it is answered as its machine may, and a planned cut comes where it falls.
 pub record Happens (next : List ℕ → ℕ → ℕ) (happens : Event) (answer : Option Reply) (old new : Site) : Type 0 where
@@ -54,7 +55,8 @@ pub record Happens (next : List ℕ → ℕ → ℕ) (happens : Event) (answer :
 -- Events happen to a device one after another.
 abbrev pub Happen : (List ℕ → ℕ → ℕ) → List Event → List (Option Reply) → Site → Site → Type 0
 Happen next [] [] old new = new ≡ old
-Happen next (e ∷ events) (answer ∷ answers) old new = (mid : Site) × Happens next e answer old mid × Happen next events answers mid new
+Happen next (e ∷ events) (answer ∷ answers) old new =
+    (mid : Site) × Happens next e answer old mid × Happen next events answers mid new
 Happen next _ _ old new = ⊥
 
 -- The configuration that a device gets which is sold like this.
@@ -69,7 +71,9 @@ new_site faults = record { device = starting Blank faults; due = None }
 abbrev pub AreMade : (List ℕ → ℕ → ℕ) → List Enrol → List Site → Type 0
 AreMade next [] [] = Unit {0}
 AreMade next (enrol ∷ enrols) (site ∷ sites) =
-    ((answers : List (Option Reply)) × Happen next (event.Power ∷ event.Make (config_of enrol) ∷ []) answers (new_site 0) site) × AreMade next enrols sites
+    ((answers : List (Option Reply))
+    × Happen next (event.Power ∷ event.Make (config_of enrol) ∷ []) answers (new_site 0) site)
+    × AreMade next enrols sites
 AreMade next _ _ = ⊥
 
 -- The tables of a shop that sold these devices, after it had others.
@@ -88,7 +92,8 @@ typed digits = map event.Key (digits ++ 35 ∷ [])
 
 -- The keys of an order's token, in the form of the order's row.
 abbrev pub typed_order : Tables → Order → List Event
-typed_order tables order = unwrap_or (option_map (λ form. typed (digits_of form order.token)) (form_in tables order.serial)) []
+typed_order tables order =
+    unwrap_or (option_map (λ form. typed (digits_of form order.token)) (form_in tables order.serial)) []
 
 -- Wrong digits in a form: as many as it has, each the least.
 abbrev pub typed_wrong : Option Enrol → List Event
@@ -103,7 +108,8 @@ events_of enrols tables (Power device) = event.Power ∷ []
 events_of enrols tables _ = []
 
 -- These events happen to one of the devices, and the others stay as they were.
-pub record HappenAt (next : List ℕ → ℕ → ℕ) (at : ℕ) (events : List Event) (answers : List (Option Reply)) (old new : List Site) : Type 0 where
+pub record HappenAt (next : List ℕ → ℕ → ℕ) (at : ℕ) (events : List Event) (answers : List (Option Reply))
+    (old new : List Site) : Type 0 where
   pub before : Site
   pub after : Site
   pub found : slice_get old at ≡ Some before
@@ -124,15 +130,20 @@ pub record IsPlanned (at due : ℕ) (old new : List Site) : Type 0 where
 abbrev pub Steps : (List ℕ → ℕ → ℕ) → List Enrol → Step → List (Option Reply) → Fleet → Fleet → Type 0
 Steps next enrols (Ledger command) answers old new =
     IsCommand command × (answers ≡ []) × (new.tables ≡ (done next old.tables command).tables) × (new.sites ≡ old.sites)
-Steps next enrols (Plan device cut) answers old new = (answers ≡ []) × (new.tables ≡ old.tables) × IsPlanned device cut.after old.sites new.sites
+Steps next enrols (Plan device cut) answers old new =
+    (answers ≡ []) × (new.tables ≡ old.tables) × IsPlanned device cut.after old.sites new.sites
 Steps next enrols (Wrong device) answers old new =
-    (new.tables ≡ old.tables) × HappenAt next device (events_of enrols old.tables (Wrong device)) answers old.sites new.sites
+    (new.tables ≡ old.tables)
+    × HappenAt next device (events_of enrols old.tables (Wrong device)) answers old.sites new.sites
 Steps next enrols (Enter device id) answers old new =
-    (new.tables ≡ old.tables) × HappenAt next device (events_of enrols old.tables (Enter device id)) answers old.sites new.sites
+    (new.tables ≡ old.tables)
+    × HappenAt next device (events_of enrols old.tables (Enter device id)) answers old.sites new.sites
 Steps next enrols (Tick device seconds) answers old new =
-    (new.tables ≡ old.tables) × HappenAt next device (events_of enrols old.tables (Tick device seconds)) answers old.sites new.sites
+    (new.tables ≡ old.tables)
+    × HappenAt next device (events_of enrols old.tables (Tick device seconds)) answers old.sites new.sites
 Steps next enrols (Power device) answers old new =
-    (new.tables ≡ old.tables) × HappenAt next device (events_of enrols old.tables (Power device)) answers old.sites new.sites
+    (new.tables ≡ old.tables)
+    × HappenAt next device (events_of enrols old.tables (Power device)) answers old.sites new.sites
 
 -- Steps one after another, and all their answers in order.
 abbrev pub Goes : (List ℕ → ℕ → ℕ) → List Enrol → List Step → List (Option Reply) → Fleet → Fleet → Type 0

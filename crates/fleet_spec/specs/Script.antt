@@ -99,11 +99,13 @@ hours device = map (λ hour. Tick device 3600) (range_with_len 0 24)
 -- The steps of a device on a day, by the word that was drawn for it.
 abbrev pub steps_by : ℕ → ℕ → ℕ → List Step
 steps_by word day device =
-    payments word day device ++ (plans word device ++ (mistakes word device ++ (entries word day device ++ (hours device ++ Power device ∷ []))))
+    payments word day device
+    ++ (plans word device ++ (mistakes word device ++ (entries word day device ++ (hours device ++ Power device ∷ []))))
 
 -- The steps of a day, device by device.
 abbrev pub steps_of_day : ℕ → ℕ → ℕ → List Step
-steps_of_day seed devices day = flat_map (λ device. steps_by (word_on seed devices day device) day device) (range_with_len 0 devices)
+steps_of_day seed devices day =
+    flat_map (λ device. steps_by (word_on seed devices day device) day device) (range_with_len 0 devices)
 
 -- The steps of all days.
 abbrev pub steps_of : ℕ → ℕ → ℕ → List Step

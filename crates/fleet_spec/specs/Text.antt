@@ -11,10 +11,15 @@ with_size devices days = with_number (with_number (codes "fleet") devices) days
 -- how many events were cut off, and how many seconds are left.
 abbrev pub with_entries : List ℕ → Totals → List ℕ
 with_entries front totals =
-    with_number (with_number (with_number (with_number (with_number (front ++ codes " orders") totals.orders ++ codes " accepted") totals.accepted ++ codes " old") totals.old ++ codes " invalid") totals.invalid ++ codes " blocked") totals.blocked
+    let orders = with_number (front ++ codes " orders") totals.orders in
+    let accepted = with_number (orders ++ codes " accepted") totals.accepted in
+    let old = with_number (accepted ++ codes " old") totals.old in
+    let invalid = with_number (old ++ codes " invalid") totals.invalid in
+    with_number (invalid ++ codes " blocked") totals.blocked
 
 abbrev pub with_totals : List ℕ → Totals → List ℕ
-with_totals front totals = with_number (with_number (with_entries front totals ++ codes " down") totals.down ++ codes " left") totals.left
+with_totals front totals =
+    with_number (with_number (with_entries front totals ++ codes " down") totals.down ++ codes " left") totals.left
 
 -- The line that a fleet of so many devices and days writes.
 unfoldable pub text_of_fleet : ℕ → ℕ → Totals → List ℕ

@@ -19,7 +19,7 @@ ghost use Rattle.paygo_spec.specs.Searched.{Searched, SearchedOn, IsClean, effec
 ghost use Rattle.paygo_spec.specs.declared.Found.TheVariants.{Valid as FoundValid};
 ghost use Rattle.paygo_spec.specs.Chain.{token_at, token_base_of, value_in};
 ghost use Rattle.paygo_spec.specs.Found.{found};
-ghost use Rattle.paygo_spec.specs.EntryNumber.{number_of, entry_of, HasNumber, next};
+ghost use Rattle.paygo_spec.specs.EntryNumber.{number_of, entry_of, HasNumber, after_number};
 
 /// Each test that the code makes decides the fact that a reader reads.
 pub fn tests_are_facts()
@@ -66,7 +66,8 @@ pub fn snapshots_decide()
     // Of a count sixteen or more below the greatest accepted one, which is never valid again, a snapshot always says
     // that it is spent.
     ensures spent { (unit : ℕ) (start : Summary) (entries : List Entry) (count : ℕ) →
-        1 ≤ count → top start entries < count + 16 → spent (snapshot unit start entries) [] count ≡ spent start entries count }
+        1 ≤ count → top start entries < count + 16 →
+        spent (snapshot unit start entries) [] count ≡ spent start entries count }
     ensures valid { (unit : ℕ) (start : Summary) (entries : List Entry) (count value : ℕ) →
         (Valid start entries count value ↔ Valid (snapshot unit start entries) [] count value) }
     ensures may_follow { (unit : ℕ) (start : Summary) (entries : List Entry) (e : Entry) →
@@ -84,14 +85,16 @@ pub fn snapshots_go_on()
 pub fn seconds_that_show_nothing_change_nothing()
     ensures { (history : History) (entries : List Entry) (seconds : ℕ) →
         ((shows_same (clock_at history (Elapsed seconds ∷ entries)) (clock_at history entries) ≡ true) ↔
-        (snapshot (unit_for history) history.start (Elapsed seconds ∷ entries) ≡ snapshot (unit_for history) history.start entries)) }
+        (snapshot (unit_for history) history.start (Elapsed seconds ∷ entries) ≡
+        snapshot (unit_for history) history.start entries)) }
 {}
 
 /// A window stands for the histories whose snapshot has its two numbers, and for no other.
 pub fn windows_are_of_snapshots()
     ensures { (unit limit last bits : ℕ) (start : Summary) (entries : List Entry) →
         (StandsFor limit last bits start entries ↔
-        ((limit ≡ (snapshot unit start entries).limit) × (last ≡ (snapshot unit start entries).last) × (bits ≡ (snapshot unit start entries).bits))) }
+        ((limit ≡ (snapshot unit start entries).limit) × (last ≡ (snapshot unit start entries).last) ×
+        (bits ≡ (snapshot unit start entries).bits))) }
 {}
 
 /// What a window says of itself it says of every history that it stands for, and a window that keeps the rule stands
@@ -132,9 +135,9 @@ pub fn entries_have_numbers()
 pub fn numbers_are_read()
     ensures read { (unit : ℕ) (start : Summary) (entries : List Entry) (e : Entry) →
         HasNumber e → IsWritten e → MayFollow unit start entries e →
-        next unit (snapshot unit start entries) (number_of e) ≡ Some (snapshot unit start (e ∷ entries)) }
+        after_number unit (snapshot unit start entries) (number_of e) ≡ Some (snapshot unit start (e ∷ entries)) }
     ensures only { (unit : ℕ) (start : Summary) (entries : List Entry) (x : ℕ) (s : Summary) →
-        next unit (snapshot unit start entries) x ≡ Some s →
+        after_number unit (snapshot unit start entries) x ≡ Some s →
         (e : Entry) × (number_of e ≡ x) × (MayFollow unit start entries e × IsWritten e) ×
         (s ≡ snapshot unit start (e ∷ entries)) }
 {}

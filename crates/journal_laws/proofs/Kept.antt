@@ -8,7 +8,7 @@ use Rattle.paygo_spec.specs.History.{Summary}
 use Rattle.paygo_spec.specs.Clock.{unit_of}
 use Rattle.paygo_spec.specs.Lawful.{IsSummary, Lawful}
 use Rattle.paygo_spec.specs.Snapshot.{snapshot}
-use Rattle.paygo_spec.specs.EntryNumber.{next}
+use Rattle.paygo_spec.specs.EntryNumber.{after_number}
 use Rattle.paygo_spec.specs.Recovery.{word_at, after_word, summary_after, used}
 use Rattle.paygo_spec.proofs.Snapshots.{snapshot_start, snapshot_keeps}
 use Rattle.paygo_spec.proofs.Entries.{read_entry}
@@ -18,10 +18,10 @@ pub unit_fits : (divider : ℕ) → unit_of divider ≤ 86400
 unit_fits divider = div-le_self 86400 divider
 
 -- an entry that is read keeps the rules
-pub next_keeps : (unit x : ℕ) (start t : Summary) → unit ≤ 86400 → IsSummary start → next unit start x ≡ Some t → IsSummary t
+pub next_keeps : (unit x : ℕ) (start t : Summary) → unit ≤ 86400 → IsSummary start → after_number unit start x ≡ Some t → IsSummary t
 next_keeps unit x start t u s h =
     let same : snapshot unit start [] ≡ start = snapshot_start unit start s in
-    let k = read_entry unit start [] x t (subst (λ y. next unit y x ≡ Some t) (sym same) h) in
+    let k = read_entry unit start [] x t (subst (λ y. after_number unit y x ≡ Some t) (sym same) h) in
     let lawful : Lawful unit start (k.0 ∷ []) = (s, k.2.0) in
     subst IsSummary (sym k.3) (snapshot_keeps unit start (k.0 ∷ []) u lawful)
 
@@ -33,7 +33,7 @@ taken (Some s) at t h = cc
 pub word_keeps : (unit at word : ℕ) (s t : Summary) → unit ≤ 86400 → IsSummary s → after_word unit at word (Ok s) ≡ Ok t → IsSummary t
 word_keeps unit at word s t u k h =
     ⊎_elim
-    (λ (r : is_railed word ≡ true). next_keeps unit (number_in word) s t u k (taken (next unit s (number_in word)) at t (rw r at h)))
+    (λ (r : is_railed word ≡ true). next_keeps unit (number_in word) s t u k (taken (after_number unit s (number_in word)) at t (rw r at h)))
     (λ (r : is_railed word ≡ false). let e : Ok s ≡ Ok t = rw r at h in let same : s ≡ t = cc in subst IsSummary same k)
     (cases_Bool (is_railed word))
 

@@ -11,7 +11,7 @@ use Rattle.paygo_spec.specs.History.{Summary, IsLimit}
 use Rattle.paygo_spec.specs.Clock.{unit_of}
 use Rattle.paygo_spec.specs.Lawful.{IsSummary, follows}
 use Rattle.paygo_spec.specs.Snapshot.{snapshot}
-use Rattle.paygo_spec.specs.EntryNumber.{number_of, after_entry, next}
+use Rattle.paygo_spec.specs.EntryNumber.{number_of, after_entry, after_number}
 use Rattle.paygo_spec.specs.Recovery.{JournalView, word_at, after_word, summary_after, used}
 use Rattle.paygo_spec.proofs.Entries.{follows_is, may_has_number, number_fits, read_back}
 use Rattle.paygo_spec.proofs.Snapshots.{snapshot_keeps}
@@ -116,7 +116,7 @@ built ws j t summary place h free fits a0 z0 keeps =
     h.ranges.behind_head free a0 z0
 
 -- an entry that follows leads on by its number, and keeps the rules
-pub entry_next : (unit : ℕ) (s : Summary) (e : Entry) → IsLimit s.limit → follows s e ≡ true → (next unit s (number_of e) ≡ Some (snapshot unit s (e ∷ []))) × (number_of e < 2 ^ 32)
+pub entry_next : (unit : ℕ) (s : Summary) (e : Entry) → IsLimit s.limit → follows s e ≡ true → (after_number unit s (number_of e) ≡ Some (snapshot unit s (e ∷ []))) × (number_of e < 2 ^ 32)
 entry_next unit s e l f =
     let k = (follows_is unit s e).0 f in
     let h = may_has_number unit s [] e l k.1 k.0 in
@@ -127,7 +127,7 @@ entry_keeps divider s e k f =
     snapshot_keeps (unit_of divider) s (e ∷ []) (div-le_self 86400 divider) (k, ((follows_is (unit_of divider) s e).0 f).0)
 
 -- what a word makes of the summary
-after_entry_word : (unit at w x : ℕ) (s more : Summary) → is_railed w ≡ true → number_in w ≡ x → next unit s x ≡ Some more → after_word unit at w (Ok s) ≡ Ok more
+after_entry_word : (unit at w x : ℕ) (s more : Summary) → is_railed w ≡ true → number_in w ≡ x → after_number unit s x ≡ Some more → after_word unit at w (Ok s) ≡ Ok more
 after_entry_word unit at w x s more r n e = rw (r, n, e) refl
 
 after_torn_word : (unit at w : ℕ) (s : Summary) → is_railed w ≡ false → after_word unit at w (Ok s) ≡ Ok s

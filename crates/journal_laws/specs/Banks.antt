@@ -48,7 +48,8 @@ pub record BanksHold (words : List ℕ) (journal : JournalView) : Type 0 where
   pub whole : AreWords words
   pub ranges : IsJournal journal
   pub start_is : IsSummary start
-  pub head : (place : ℕ) → place < 12 → word_at words journal.bank place ≡ railed (head_number journal.at.number journal.config start place)
+  pub head : (place : ℕ) → place < 12
+      → word_at words journal.bank place ≡ railed (head_number journal.at.number journal.config start place)
   pub other : IsBehind (word_at words (1 - journal.bank) 0) journal.at.number
   pub entries : summary_after words journal.bank (unit_of journal.config.divider) start 500 ≡ Ok journal.summary
   pub place : 12 + used words journal.bank 500 ≡ journal.at.place

@@ -58,4 +58,5 @@ pub record IsCut (entry : Entry) (old : JournalView) (words : List ℕ) : Type 0
 -- What the words hold after the power was cut while a device was made: what they held, or, where that was no device, the
 -- new one.
 abbrev pub IsCutMake : Config → List ℕ → List ℕ → Type 0
-IsCutMake config old new = (recover new ≡ recover old) ⊎ ((recover old ≡ Unmade) × (recover new ≡ Made (new_journal config)))
+IsCutMake config old new =
+    (recover new ≡ recover old) ⊎ ((recover old ≡ Unmade) × (recover new ≡ Made (new_journal config)))

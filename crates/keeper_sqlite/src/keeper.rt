@@ -1,5 +1,5 @@
 // A keeper of the tables in a database.
-ghost use Rattle.std.specs.Prelude.{◌≡◌, ◌≢◌, None, Err, IfOk, IfSome, All};
+ghost use Rattle.std.specs.Prelude.{◌≡◌, None, IfOk, IfSome, All};
 ghost use Rattle.ledger_spec.specs.Tables.{RowIsInRange, OrderIsInRange, ChangeIsInRange};
 ghost use Rattle.ledger_spec.specs.Keeper.{Counts};
 
@@ -39,9 +39,9 @@ enum Link {
 /// program can open the file. What is committed stands in the file and in the log beside it, whose name has `-wal` at its
 /// end: the two belong together, until `close` has copied the log into the file.
 ///
-/// A call fails, and counts it, where the database can't be opened, where a statement is refused, and where a row, an order
-/// or a change of a price is found that is out of range, or an order whose device has no row. It says `Memory`, and counts
-/// nothing, where the database found no memory.
+/// A call fails, and counts it once, where the database can't be opened, where a statement is refused, and where a row,
+/// an order or a change of a price is found that is out of range, or an order whose device has no row. It says
+/// `Memory`, and counts nothing, where there is no memory. A call that answers counts nothing.
 #[derive(Drop)]
 pub struct SqliteKeeper<'a> {
     rt: &'a HostRuntime,
@@ -81,8 +81,8 @@ impl<'a> SqliteKeeper<'a> {
     ///
     /// # Errors
     ///
-    /// `Failed` where the file can't be written, and counted; `Memory` where there is none. What was committed is then
-    /// still in the file and its log.
+    /// `Failed` where the file can't be written, and the fault is counted, once; `Memory` where there is none, and no
+    /// fault is counted. What was committed is then still in the file and its log.
     pub fn close(&mut self) -> Result<(), KeeperFault>
         ensures counts { Counts result self.old.faults self.new.faults }
     {
@@ -115,11 +115,10 @@ impl<'a> SqliteKeeper<'a> {
         Ok(())
     }
 
-    // Counts a call that failed.
+    // Counts a call that failed, and no other.
     fn counted<T>(&mut self, outcome: Result<T, KeeperFault>) -> Result<T, KeeperFault>
         ensures same { result ≡ outcome }
         ensures counts { Counts result self.old.faults self.new.faults }
-        ensures quiet { result ≢ Err KeeperFault.Failed → self.new.faults ≡ self.old.faults }
     {
         if let Err(KeeperFault::Failed) = &outcome {
             self.faults = self.faults.saturating_add(1);

@@ -13,15 +13,16 @@ abbrev pub planned_at : Option Plan → ℕ → Option Bool
 planned_at None call = None
 planned_at (Some plan) call = if plan.call == call then Some plan.whole else None
 
--- A reading call did as planned: it failed where it was to fail, and else it didn't, and no fault was counted.
-abbrev pub ReadsAsPlanned : {T : Type 0} → Option Bool → Result T KeeperFault → KeeperView → KeeperView → Type 0
-ReadsAsPlanned None result old new = (result ≢ Err Failed) × (new.faults ≡ old.faults)
-ReadsAsPlanned (Some whole) result old new = result ≡ Err Failed
+-- A reading call did as planned: it failed where it was to fail, and else it didn't.
+abbrev pub ReadsAsPlanned : {T : Type 0} → Option Bool → Result T KeeperFault → Type 0
+ReadsAsPlanned None result = result ≢ Err Failed
+ReadsAsPlanned (Some whole) result = result ≡ Err Failed
 
 -- A writing call did as planned: where it was to fail it left nothing of its change, or the whole, unless there was no
--- memory for it; and else it didn't fail, and no fault was counted.
-abbrev pub WritesAsPlanned : (Tables → Tables) → Option Bool → Result (Unit {0}) KeeperFault → KeeperView → KeeperView → Type 0
-WritesAsPlanned change None result old new = (result ≢ Err Failed) × (new.faults ≡ old.faults)
+-- memory for it; and else it didn't fail.
+abbrev pub WritesAsPlanned : (Tables → Tables) → Option Bool → Result (Unit {0}) KeeperFault → KeeperView
+    → KeeperView → Type 0
+WritesAsPlanned change None result old new = result ≢ Err Failed
 WritesAsPlanned change (Some false) result old new = (result ≡ Err Failed) × (new.tables ≡ old.tables)
 WritesAsPlanned change (Some true) result old new =
     (result ≡ Err Memory) ⊎ ((result ≡ Err Failed) × (new.tables ≡ option_map change old.tables))

@@ -10,8 +10,9 @@ use paygo_spec::Form;
 use std::alloc::Global;
 
 /// A keeper of the shop's tables: the rows of the devices, the orders, and the changes of prices. It may tell them, as one
-/// in memory does, or not, as one over a database; what it hands out is in range in both cases. It counts its faults, in a
-/// number that never falls and stands still at 2^64 - 1. All calls may take memory.
+/// in memory does, or not, as one over a database; what it hands out is in range in both cases. It counts its faults: a
+/// call that fails counts one, and a call that answers, or finds no memory, counts none. The count stands still at
+/// 2^64 - 1. All calls may take memory.
 pub trait Keeper {
     /// What is seen of the keeper.
     ghost view: { Self → KeeperView };
@@ -20,7 +21,8 @@ pub trait Keeper {
     ///
     /// # Errors
     ///
-    /// `Failed` only where the count of faults rose in this call, or stands at 2^64 - 1; `Memory` where there is none.
+    /// `Failed` where the keeper failed, and the fault is counted, once; `Memory` where there is none, and no fault is
+    /// counted.
     fn device(&mut self, alloc: Global, serial: &Name) -> Result<Option<Row>, KeeperFault>
         ensures reads { Reads result (view self.old) (view self.new) }
         ensures found { IfOk result (λ found. IfSome (view self.old).tables
@@ -31,7 +33,7 @@ pub trait Keeper {
     ///
     /// # Errors
     ///
-    /// As for `device`. An order whose device has no row is never answered: it is a counted fault.
+    /// As for `device`. An order whose device has no row is never answered: it is a fault, and counted.
     fn order(&mut self, alloc: Global, id: &Name) -> Result<Option<(Order, Form)>, KeeperFault>
         ensures reads { Reads result (view self.old) (view self.new) }
         ensures found { IfOk result (λ found. IfSome (view self.old).tables
@@ -64,8 +66,8 @@ pub trait Keeper {
     ///
     /// # Errors
     ///
-    /// `Failed` only where the count of faults rose in this call, or stands at 2^64 - 1: the tables are as before or have
-    /// the row. `Memory` where there is none: the tables are as before.
+    /// `Failed` where the keeper failed, and the fault is counted, once: the tables are as before or have the row.
+    /// `Memory` where there is none: the tables are as before, and no fault is counted.
     fn add_device(&mut self, alloc: Global, row: &Row) -> Result<(), KeeperFault>
         requires in_range { RowIsInRange row.now }
         requires new { IfSome (view self.old).tables (λ tables. row_of tables row.now.serial ≡ None) }

@@ -1,13 +1,12 @@
 // A keeper in memory, whose fault is planned.
-ghost use Rattle.std.specs.Prelude.{◌≡◌, ◌≢◌, ◌+◌, ◌-◌, ◌^◌, ◌≤◌, length, min, true, false, Some, None, ◌∷◌, [], Err, IfOk, IfSome, IfNone, OnSome, IsSome, All, IsSomeAnd, if◌then◌else◌, find};
-ghost use Rattle.paygo_spec.specs.Faults.{Rose};
-ghost use Rattle.paygo_spec.specs.Streams.{raised};
+ghost use Rattle.std.specs.Prelude.{◌≡◌, ◌≢◌, ◌+◌, ◌-◌, ◌^◌, ◌≤◌, length, min, true, false, Some, None, ◌∷◌, [], Ok, Err, IfOk, IfSome, IfNone, IsSome, All, IsSomeAnd, if◌then◌else◌, find};
+ghost use Rattle.paygo_spec.specs.Faults.{raised, Rose};
 ghost use Rattle.ledger_spec.specs.declared.KeeperFault.TheVariants.{Failed};
 ghost use Rattle.ledger_spec.specs.Tables.{Tables, row_of, order_of, change_of, prices_for, row_in, order_in, rows_with, has_serial, no_tables, with_row, with_order, with_change, with_raised, raised_row, rows_raised, RowIsInRange, OrderIsInRange, ChangeIsInRange, Kept};
 ghost use Rattle.paygo_spec.specs.declared.TheConstants.{LAST};
 ghost use Rattle.ledger_spec.specs.KeptOnce.{kept_prop};
 ghost use Rattle.ledger_spec.specs.Sorted.{orders_for, all_rows};
-ghost use Rattle.ledger_spec.specs.Keeper.{KeeperView, Reads, Commits, IsOrderOf};
+ghost use Rattle.ledger_spec.specs.Keeper.{KeeperView, Counts, Reads, Commits, IsOrderOf};
 ghost use Rattle.ledger_keeper.specs.Planned.{planned_at, ReadsAsPlanned, WritesAsPlanned};
 
 use crate::Keeper;
@@ -27,7 +26,8 @@ pub struct Plan {
 }
 
 /// A keeper in memory, for tests and for runs whose tables last no longer than the run. It tells its tables, and fails
-/// only where a fault is planned: without one its count of faults stays.
+/// only where a fault is planned. A call that fails counts one fault, and a call that answers, or finds no memory,
+/// counts none.
 #[derive(Drop)]
 pub struct MemKeeper {
     rows: Vec<Row>,
@@ -67,7 +67,8 @@ impl MemKeeper {
 
     /// Plans the call of this number, counted from 1 over all calls, to fail, in the place of the one planned before; a
     /// number that was passed never comes. A write that fails leaves its whole change where `whole` is true, and else
-    /// nothing of it. Where there is no memory for the whole change, want of memory is answered, and nothing changes.
+    /// nothing of it. Where there is no memory for the whole change, want of memory is answered, nothing changes, and
+    /// no fault is counted.
     pub fn fail_at(&mut self, call: u64, whole: bool)
         ensures seen { ⟦<MemKeeper as Keeper>⟧.view self.new ≡ ⟦<MemKeeper as Keeper>⟧.view self.old }
         ensures plan { keeper_plan self.new ≡ record (keeper_plan self.old)
@@ -77,13 +78,10 @@ impl MemKeeper {
     }
 }
 
-// Counts a call. Where it is the one planned to fail, that is counted too, and the answer is what a write leaves.
-fn begin(calls: &mut u64, plan: &Option<Plan>, faults: &mut u64) -> Option<bool>
-    ensures passes { IfNone result (faults.new ≡ faults.old) }
+// Counts a call, and says what is planned for it.
+fn begin(calls: &mut u64, plan: &Option<Plan>) -> Option<bool>
     ensures counted { calls.new ≡ raised calls.old 1 }
     ensures planned { result ≡ planned_at plan.now calls.new }
-    ensures later { faults.old ≤ faults.new }
-    ensures rose { OnSome result (Rose faults.old faults.new) }
 {
     *calls = calls.saturating_add(1);
     let Some(plan) = plan else {
@@ -92,8 +90,28 @@ fn begin(calls: &mut u64, plan: &Option<Plan>, faults: &mut u64) -> Option<bool>
     if plan.call != *calls {
         return None;
     }
-    *faults = faults.saturating_add(1);
     Some(plan.whole)
+}
+
+// The answer of a call that fails, which is counted.
+fn failed(faults: &mut u64) -> KeeperFault
+    ensures answer { result ≡ KeeperFault.Failed }
+    ensures counted { Rose faults.old faults.new }
+{
+    *faults = faults.saturating_add(1);
+    KeeperFault::Failed
+}
+
+// The answer of a write whose whole change is made: it failed where that is planned.
+fn written(planned: Option<bool>, faults: &mut u64) -> Result<(), KeeperFault>
+    ensures passes { IfNone planned (result ≡ Ok tt) }
+    ensures fails { IfSome planned (λ _. result ≡ Err KeeperFault.Failed) }
+    ensures counts { Counts result faults.old faults.new }
+{
+    if planned.is_some() {
+        return Err(failed(faults));
+    }
+    Ok(())
 }
 
 // The row of a serial.
@@ -172,11 +190,10 @@ impl Keeper for MemKeeper {
         ensures in_range { IfOk result (λ found. IfSome found RowIsInRange) }
         ensures plan { keeper_plan self.new ≡ record (keeper_plan self.old)
             { calls = raised (keeper_plan self.old).calls 1 } }
-        ensures planned { ReadsAsPlanned (planned_at (keeper_plan self.new).fails (keeper_plan self.new).calls) result
-            (⟦<MemKeeper as Keeper>⟧.view self.old) (⟦<MemKeeper as Keeper>⟧.view self.new) }
+        ensures planned { ReadsAsPlanned (planned_at (keeper_plan self.new).fails (keeper_plan self.new).calls) result }
     {
-        if begin(&mut self.calls, &self.plan, &mut self.faults).is_some() {
-            return Err(KeeperFault::Failed);
+        if begin(&mut self.calls, &self.plan).is_some() {
+            return Err(failed(&mut self.faults));
         }
         Ok(row_among(&self.rows, serial))
     }
@@ -188,11 +205,10 @@ impl Keeper for MemKeeper {
         ensures in_range { IfOk result (λ found. IfSome found (λ f. OrderIsInRange f.0)) }
         ensures plan { keeper_plan self.new ≡ record (keeper_plan self.old)
             { calls = raised (keeper_plan self.old).calls 1 } }
-        ensures planned { ReadsAsPlanned (planned_at (keeper_plan self.new).fails (keeper_plan self.new).calls) result
-            (⟦<MemKeeper as Keeper>⟧.view self.old) (⟦<MemKeeper as Keeper>⟧.view self.new) }
+        ensures planned { ReadsAsPlanned (planned_at (keeper_plan self.new).fails (keeper_plan self.new).calls) result }
     {
-        if begin(&mut self.calls, &self.plan, &mut self.faults).is_some() {
-            return Err(KeeperFault::Failed);
+        if begin(&mut self.calls, &self.plan).is_some() {
+            return Err(failed(&mut self.faults));
         }
         let Some(order) = order_among(&self.orders, id) else {
             return Ok(None);
@@ -210,11 +226,10 @@ impl Keeper for MemKeeper {
         ensures in_range { IfOk result (λ list. All OrderIsInRange list.items) }
         ensures plan { keeper_plan self.new ≡ record (keeper_plan self.old)
             { calls = raised (keeper_plan self.old).calls 1 } }
-        ensures planned { ReadsAsPlanned (planned_at (keeper_plan self.new).fails (keeper_plan self.new).calls) result
-            (⟦<MemKeeper as Keeper>⟧.view self.old) (⟦<MemKeeper as Keeper>⟧.view self.new) }
+        ensures planned { ReadsAsPlanned (planned_at (keeper_plan self.new).fails (keeper_plan self.new).calls) result }
     {
-        if begin(&mut self.calls, &self.plan, &mut self.faults).is_some() {
-            return Err(KeeperFault::Failed);
+        if begin(&mut self.calls, &self.plan).is_some() {
+            return Err(failed(&mut self.faults));
         }
         match sorted_orders(alloc, &self.orders, serial) {
             Some(list) => Ok(list),
@@ -229,11 +244,10 @@ impl Keeper for MemKeeper {
         ensures in_range { IfOk result (λ list. All RowIsInRange list.items) }
         ensures plan { keeper_plan self.new ≡ record (keeper_plan self.old)
             { calls = raised (keeper_plan self.old).calls 1 } }
-        ensures planned { ReadsAsPlanned (planned_at (keeper_plan self.new).fails (keeper_plan self.new).calls) result
-            (⟦<MemKeeper as Keeper>⟧.view self.old) (⟦<MemKeeper as Keeper>⟧.view self.new) }
+        ensures planned { ReadsAsPlanned (planned_at (keeper_plan self.new).fails (keeper_plan self.new).calls) result }
     {
-        if begin(&mut self.calls, &self.plan, &mut self.faults).is_some() {
-            return Err(KeeperFault::Failed);
+        if begin(&mut self.calls, &self.plan).is_some() {
+            return Err(failed(&mut self.faults));
         }
         match sorted_rows(alloc, &self.rows) {
             Some(list) => Ok(list),
@@ -243,56 +257,53 @@ impl Keeper for MemKeeper {
 
     fn add_device(&mut self, _alloc: Global, row: &Row) -> Result<(), KeeperFault>
         requires in_range { RowIsInRange row.now }
-        requires new { IfSome (⟦<MemKeeper as Keeper>⟧.view self.old).tables (λ tables. row_of tables row.now.serial ≡ None) }
-        ensures commits { Commits (with_row row.now) result (⟦<MemKeeper as Keeper>⟧.view self.old) (⟦<MemKeeper as Keeper>⟧.view self.new) }
+        requires new { IfSome (⟦<MemKeeper as Keeper>⟧.view self.old).tables
+            (λ tables. row_of tables row.now.serial ≡ None) }
+        ensures commits { Commits (with_row row.now) result (⟦<MemKeeper as Keeper>⟧.view self.old)
+            (⟦<MemKeeper as Keeper>⟧.view self.new) }
         ensures plan { keeper_plan self.new ≡ record (keeper_plan self.old)
             { calls = raised (keeper_plan self.old).calls 1 } }
         ensures planned { WritesAsPlanned (with_row row.now)
             (planned_at (keeper_plan self.new).fails (keeper_plan self.new).calls) result
             (⟦<MemKeeper as Keeper>⟧.view self.old) (⟦<MemKeeper as Keeper>⟧.view self.new) }
     {
-        let planned = begin(&mut self.calls, &self.plan, &mut self.faults);
+        let planned = begin(&mut self.calls, &self.plan);
         if planned == Some(false) {
-            return Err(KeeperFault::Failed);
+            return Err(failed(&mut self.faults));
         }
         let added = self.rows.insert(0, *row).is_ok();
         if !added {
             return Err(KeeperFault::Memory);
         }
-        if planned.is_some() {
-            return Err(KeeperFault::Failed);
-        }
-        Ok(())
+        written(planned, &mut self.faults)
     }
 
     fn add_order(&mut self, _alloc: Global, order: &Order, row: &Row) -> Result<(), KeeperFault>
         requires order { OrderIsInRange order.now }
         requires row { RowIsInRange row.now }
         requires same { row.now.serial ≡ order.now.serial }
-        requires new { IfSome (⟦<MemKeeper as Keeper>⟧.view self.old).tables (λ tables. order_of tables order.now.id ≡ None) }
-        requires kept { IfSome (⟦<MemKeeper as Keeper>⟧.view self.old).tables (λ tables. IsSome (row_of tables row.now.serial)) }
-        ensures commits { Commits (with_order order.now row.now) result (⟦<MemKeeper as Keeper>⟧.view self.old) (⟦<MemKeeper as Keeper>⟧.view self.new) }
+        requires new { IfSome (⟦<MemKeeper as Keeper>⟧.view self.old).tables
+            (λ tables. order_of tables order.now.id ≡ None) }
+        requires kept { IfSome (⟦<MemKeeper as Keeper>⟧.view self.old).tables
+            (λ tables. IsSome (row_of tables row.now.serial)) }
+        ensures commits { Commits (with_order order.now row.now) result (⟦<MemKeeper as Keeper>⟧.view self.old)
+            (⟦<MemKeeper as Keeper>⟧.view self.new) }
         ensures plan { keeper_plan self.new ≡ record (keeper_plan self.old)
             { calls = raised (keeper_plan self.old).calls 1 } }
         ensures planned { WritesAsPlanned (with_order order.now row.now)
             (planned_at (keeper_plan self.new).fails (keeper_plan self.new).calls) result
             (⟦<MemKeeper as Keeper>⟧.view self.old) (⟦<MemKeeper as Keeper>⟧.view self.new) }
     {
-        let planned = begin(&mut self.calls, &self.plan, &mut self.faults);
+        let planned = begin(&mut self.calls, &self.plan);
         if planned == Some(false) {
-            return Err(KeeperFault::Failed);
+            return Err(failed(&mut self.faults));
         }
         let added = self.orders.insert(0, *order).is_ok();
-        if added {
-            put(&mut self.rows, row);
-        }
         if !added {
             return Err(KeeperFault::Memory);
         }
-        if planned.is_some() {
-            return Err(KeeperFault::Failed);
-        }
-        Ok(())
+        put(&mut self.rows, row);
+        written(planned, &mut self.faults)
     }
 
     fn prices_of(&mut self, alloc: Global, serial: &Name) -> Result<Vec<PriceChange>, KeeperFault>
@@ -302,11 +313,10 @@ impl Keeper for MemKeeper {
         ensures in_range { IfOk result (λ list. All ChangeIsInRange list.items) }
         ensures plan { keeper_plan self.new ≡ record (keeper_plan self.old)
             { calls = raised (keeper_plan self.old).calls 1 } }
-        ensures planned { ReadsAsPlanned (planned_at (keeper_plan self.new).fails (keeper_plan self.new).calls) result
-            (⟦<MemKeeper as Keeper>⟧.view self.old) (⟦<MemKeeper as Keeper>⟧.view self.new) }
+        ensures planned { ReadsAsPlanned (planned_at (keeper_plan self.new).fails (keeper_plan self.new).calls) result }
     {
-        if begin(&mut self.calls, &self.plan, &mut self.faults).is_some() {
-            return Err(KeeperFault::Failed);
+        if begin(&mut self.calls, &self.plan).is_some() {
+            return Err(failed(&mut self.faults));
         }
         match sorted_changes(alloc, &self.changes, serial) {
             Some(list) => Ok(list),
@@ -317,47 +327,44 @@ impl Keeper for MemKeeper {
     fn raise(&mut self, _alloc: Global, serial: &Name) -> Result<(), KeeperFault>
         requires { IfSome (⟦<MemKeeper as Keeper>⟧.view self.old).tables
             (λ tables. IsSomeAnd (row_of tables serial.now) (λ row. row.limit ≡ LAST)) }
-        ensures commits { Commits (with_raised serial.now) result (⟦<MemKeeper as Keeper>⟧.view self.old) (⟦<MemKeeper as Keeper>⟧.view self.new) }
+        ensures commits { Commits (with_raised serial.now) result (⟦<MemKeeper as Keeper>⟧.view self.old)
+            (⟦<MemKeeper as Keeper>⟧.view self.new) }
         ensures plan { keeper_plan self.new ≡ record (keeper_plan self.old)
             { calls = raised (keeper_plan self.old).calls 1 } }
         ensures planned { WritesAsPlanned (with_raised serial.now)
             (planned_at (keeper_plan self.new).fails (keeper_plan self.new).calls) result
             (⟦<MemKeeper as Keeper>⟧.view self.old) (⟦<MemKeeper as Keeper>⟧.view self.new) }
     {
-        let planned = begin(&mut self.calls, &self.plan, &mut self.faults);
+        let planned = begin(&mut self.calls, &self.plan);
         if planned == Some(false) {
-            return Err(KeeperFault::Failed);
+            return Err(failed(&mut self.faults));
         }
         raise_among(&mut self.rows, serial);
-        if planned.is_some() {
-            return Err(KeeperFault::Failed);
-        }
-        Ok(())
+        written(planned, &mut self.faults)
     }
 
     fn add_price(&mut self, _alloc: Global, change: &PriceChange) -> Result<(), KeeperFault>
         requires in_range { ChangeIsInRange change.now }
-        requires kept { IfSome (⟦<MemKeeper as Keeper>⟧.view self.old).tables (λ tables. IsSome (row_of tables change.now.serial)) }
+        requires kept { IfSome (⟦<MemKeeper as Keeper>⟧.view self.old).tables
+            (λ tables. IsSome (row_of tables change.now.serial)) }
         requires new { IfSome (⟦<MemKeeper as Keeper>⟧.view self.old).tables
             (λ tables. change_of tables change.now.serial change.now.from ≡ None) }
-        ensures commits { Commits (with_change change.now) result (⟦<MemKeeper as Keeper>⟧.view self.old) (⟦<MemKeeper as Keeper>⟧.view self.new) }
+        ensures commits { Commits (with_change change.now) result (⟦<MemKeeper as Keeper>⟧.view self.old)
+            (⟦<MemKeeper as Keeper>⟧.view self.new) }
         ensures plan { keeper_plan self.new ≡ record (keeper_plan self.old)
             { calls = raised (keeper_plan self.old).calls 1 } }
         ensures planned { WritesAsPlanned (with_change change.now)
             (planned_at (keeper_plan self.new).fails (keeper_plan self.new).calls) result
             (⟦<MemKeeper as Keeper>⟧.view self.old) (⟦<MemKeeper as Keeper>⟧.view self.new) }
     {
-        let planned = begin(&mut self.calls, &self.plan, &mut self.faults);
+        let planned = begin(&mut self.calls, &self.plan);
         if planned == Some(false) {
-            return Err(KeeperFault::Failed);
+            return Err(failed(&mut self.faults));
         }
         let added = self.changes.insert(0, *change).is_ok();
         if !added {
             return Err(KeeperFault::Memory);
         }
-        if planned.is_some() {
-            return Err(KeeperFault::Failed);
-        }
-        Ok(())
+        written(planned, &mut self.faults)
     }
 }

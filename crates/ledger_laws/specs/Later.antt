@@ -23,8 +23,10 @@ pub record GoesOn (old new : Row) : Type 0 where
 -- Tables after some commands: each order and each change of a price stays as it is, and each device keeps its row.
 pub record Later (old new : Tables) : Type 0 where
   pub orders : (id : List ℕ) (order : Order) → order_of old id ≡ Some order → order_of new id ≡ Some order
-  pub rows : (serial : List ℕ) (row : Row) → row_of old serial ≡ Some row → (now : Row) × (row_of new serial ≡ Some now) × GoesOn row now
-  pub changes : (serial : List ℕ) (from : ℕ) (change : PriceChange) → change_of old serial from ≡ Some change → change_of new serial from ≡ Some change
+  pub rows : (serial : List ℕ) (row : Row) → row_of old serial ≡ Some row
+      → (now : Row) × (row_of new serial ≡ Some now) × GoesOn row now
+  pub changes : (serial : List ℕ) (from : ℕ) (change : PriceChange) → change_of old serial from ≡ Some change
+      → change_of new serial from ≡ Some change
 
 -- One step of a run of the ledger: the command was answered as the ledger says, or it failed. One that failed has no answer,
 -- and the tables are as before, or as the command would have left them.

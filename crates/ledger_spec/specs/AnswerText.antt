@@ -50,7 +50,8 @@ done_text what members = with_members ((codes "{\"ok\":\"" ++ what) ++ codes "\"
 -- The answer to a command that was refused: the number of the refusal, and why.
 abbrev pub refused_text : ℕ → List ℕ → List Member → List ℕ
 refused_text refusal why members =
-    with_members ((((codes "{\"no\":" ++ decimal refusal) ++ codes ",\"why\":\"") ++ why) ++ codes "\"") members ++ codes "}"
+    let reason = (((codes "{\"no\":" ++ decimal refusal) ++ codes ",\"why\":\"") ++ why) ++ codes "\"" in
+    with_members reason members ++ codes "}"
 
 -- The word of a kind.
 abbrev pub kind_name : Kind → List ℕ

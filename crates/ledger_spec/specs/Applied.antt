@@ -1,5 +1,5 @@
 -- What a call of the ledger did.
-use Rattle.std.specs.Prelude.{◌≡◌, ◌≤◌, ◌⊎◌, Option, Result, Ok, Err, IfSome}
+use Rattle.std.specs.Prelude.{◌≡◌, ℕ, ◌⊎◌, Option, Result, Ok, Err, IfSome}
 use Rattle.std.specs.Option.{option_map}
 use Rattle.paygo_spec.specs.Faults.{Rose}
 use Rattle.ledger_spec.specs.declared.Answer.{Answer}
@@ -27,9 +27,13 @@ AppliedTo does (Ok answer) old new = IfSome old (λ t. answer ≡ (does t).answe
 AppliedTo does (Err Keeper) old new = (new ≡ old) ⊎ (new ≡ left_by does old)
 AppliedTo does (Err Memory) old new = new ≡ old
 
--- A call of the ledger over a keeper: what it did to the tables, and to the count of faults, which rose where the answer is
--- that the keeper failed.
+-- A call of the ledger that says that the keeper failed had one fault of it, and any other had none.
+abbrev pub Blames : {T : Type 0} → Result T LedgerFault → ℕ → ℕ → Type 0
+Blames (Ok answer) before now = now ≡ before
+Blames (Err Keeper) before now = Rose before now
+Blames (Err Memory) before now = now ≡ before
+
+-- A call of the ledger over a keeper: what it did to the tables, and to the count of faults.
 pub record Applies (does : Tables → Done) (result : Result Answer LedgerFault) (old new : KeeperView) : Type 0 where
   pub tables : AppliedTo does result old.tables new.tables
-  pub later : old.faults ≤ new.faults
-  pub rose : result ≡ Err Keeper → Rose old.faults new.faults
+  pub faults : Blames result old.faults new.faults

@@ -1,5 +1,5 @@
 -- What is seen of a keeper of the tables, and what its calls do.
-use Rattle.std.specs.Prelude.{◌≡◌, ℕ, ◌≤◌, ◌⊎◌, List, Option, Some, None, Result, Ok, Err}
+use Rattle.std.specs.Prelude.{◌≡◌, ℕ, ◌⊎◌, List, Option, Some, None, Result, Ok, Err}
 use Rattle.std.specs.Option.{option_map}
 use Rattle.paygo_spec.specs.declared.Form.{Form}
 use Rattle.paygo_spec.specs.Faults.{Rose}
@@ -13,10 +13,11 @@ pub record KeeperView : Type 0 where
   pub tables : Option Tables
   pub faults : ℕ
 
--- The count of faults never falls, and it rose in a call that failed.
-pub record Counts {T : Type 0} (result : Result T KeeperFault) (before now : ℕ) : Type 0 where
-  pub later : before ≤ now
-  pub rose : result ≡ Err Failed → Rose before now
+-- A call that failed is counted, once, and no other is: neither one that answers nor one that found no memory.
+abbrev pub Counts : {T : Type 0} → Result T KeeperFault → ℕ → ℕ → Type 0
+Counts (Ok answer) before now = now ≡ before
+Counts (Err Failed) before now = Rose before now
+Counts (Err Memory) before now = now ≡ before
 
 -- A call that reads: the tables stay as they were, whatever it answers.
 pub record Reads {T : Type 0} (result : Result T KeeperFault) (old new : KeeperView) : Type 0 where
@@ -31,7 +32,8 @@ Changed change (Err Failed) old new = (new ≡ old) ⊎ (new ≡ option_map chan
 Changed change (Err Memory) old new = new ≡ old
 
 -- A call that writes, in one commit.
-pub record Commits (change : Tables → Tables) (result : Result (Unit {0}) KeeperFault) (old new : KeeperView) : Type 0 where
+pub record Commits (change : Tables → Tables) (result : Result (Unit {0}) KeeperFault) (old new : KeeperView)
+    : Type 0 where
   pub tables : Changed change result old.tables new.tables
   pub counts : Counts result old.faults new.faults
 

@@ -49,7 +49,10 @@ same_ask _ _ = false
 -- Whether a row agrees with what a device is enrolled with.
 abbrev pub agrees : Enrol → Row → Bool
 agrees enrol row =
-    bytes_eq row.key enrol.key && ((row.start == enrol.start) && ((row.divider == enrol.divider) && (same_form row.form enrol.form && ((row.price == enrol.price) && (row.total == enrol.total)))))
+    bytes_eq row.key enrol.key
+    && ((row.start == enrol.start)
+    && ((row.divider == enrol.divider)
+    && (same_form row.form enrol.form && ((row.price == enrol.price) && (row.total == enrol.total)))))
 
 -- The row of a device that is enrolled.
 abbrev pub new_row : Enrol → Row
@@ -71,26 +74,36 @@ new_row enrol = record {
 -- A device is enrolled. A serial that is kept is answered by its row where that agrees.
 abbrev pub enrolled : Tables → Enrol → Option Row → Done
 enrolled tables enrol None = record { answer = answer_is.Row (new_row enrol); tables = with_row (new_row enrol) tables }
-enrolled tables enrol (Some row) = stays tables (if agrees enrol row then answer_is.Row row else answer_is.SerialUsed row)
+enrolled tables enrol (Some row) =
+    stays tables (if agrees enrol row then answer_is.Row row else answer_is.SerialUsed row)
 
 -- A payment below the total buys, at this price, as many units as the money at hand pays for; the remainder is kept.
 abbrev pub buys : ℕ → Row → ℕ → ℕ → Result Issue Answer
 buys price row amount have =
     if nat_lt have price then Err (answer_is.Small have price)
     else if nat_lt 995 (have / price) then Err (answer_is.Large (have / price))
-    else Ok record { kind = kind_is.Add; value = have / price; row = record row { paid = row.paid + amount; rest = have % price } }
+    else Ok record {
+      kind = kind_is.Add;
+      value = have / price;
+      row = record row { paid = row.paid + amount; rest = have % price };
+    }
 
 -- A payment that reaches the total frees the device, and closes its row.
 abbrev pub pays : ℕ → Row → ℕ → Result Issue Answer
 pays price row amount =
     if row.closed then Err (answer_is.Closed row.paid)
     else if nat_lt (row.paid + amount) row.total then buys price row amount (row.rest + amount)
-    else Ok record { kind = kind_is.Disable; value = 998; row = record row { paid = row.paid + amount; rest = 0; closed = true } }
+    else Ok record {
+      kind = kind_is.Disable;
+      value = 998;
+      row = record row { paid = row.paid + amount; rest = 0; closed = true };
+    }
 
 -- What is issued at this price for what is asked of a device, or why nothing is.
 abbrev pub issue_for : ℕ → Row → Ask → Result Issue Answer
 issue_for price row (asks.Pay amount) = pays price row amount
-issue_for price row (asks.Set units) = Ok record { kind = kind_is.Set; value = units; row = record row { closed = false } }
+issue_for price row (asks.Set units) =
+    Ok record { kind = kind_is.Set; value = units; row = record row { closed = false } }
 issue_for price row asks.Disable = Ok record { kind = kind_is.Disable; value = 998; row = record row { closed = true } }
 issue_for price row asks.Sync = Ok record { kind = kind_is.Sync; value = 999; row = row }
 
@@ -126,7 +139,8 @@ offered tables row ask = issue_for (price_at tables row (row.last + 1)) row ask
 abbrev pub issued : (List ℕ → ℕ → ℕ) → Tables → List ℕ → Ask → Result Issue Answer → Done
 issued next tables id ask (Err refusal) = stays tables refusal
 issued next tables id ask (Ok issue) =
-    issued_at next tables id ask issue (pick (next issue.row.key) issue.row.start issue.row.limit issue.row.last issue.kind issue.value)
+    let row = issue.row in
+    issued_at next tables id ask issue (pick (next row.key) row.start row.limit row.last issue.kind issue.value)
 
 -- Whether a kept order is that of the same serial and of the same ask, so that the command is a retry.
 abbrev pub is_retry : List ℕ → Ask → Order → Bool
@@ -139,7 +153,8 @@ form_for tables order = unwrap_or (form_in tables order.serial) Nine
 -- A token is asked for a device that has a row. An id that is kept is answered by its order, or refused by it.
 abbrev pub asked_of : (List ℕ → ℕ → ℕ) → Tables → List ℕ → List ℕ → Ask → Row → Option Order → Done
 asked_of next tables id serial ask row (Some order) =
-    stays tables (if is_retry serial ask order then answer_is.Order order (form_for tables order) else answer_is.IdUsed order (form_for tables order))
+    let form = form_for tables order in
+    stays tables (if is_retry serial ask order then answer_is.Order order form else answer_is.IdUsed order form)
 asked_of next tables id serial ask row None = issued next tables id ask (offered tables row ask)
 
 -- A token is asked for a device.
@@ -175,7 +190,8 @@ changed_at tables change row false = stays tables (answer_is.Stale row.last)
 
 -- A change of the price of a device that has a row. One that is kept is answered, or refuses another price.
 abbrev pub changed_of : Tables → PriceChange → Row → Option PriceChange → Done
-changed_of tables change row (Some kept) = stays tables (if kept.price == change.price then answer_is.Price kept else answer_is.PriceUsed kept.price)
+changed_of tables change row (Some kept) =
+    stays tables (if kept.price == change.price then answer_is.Price kept else answer_is.PriceUsed kept.price)
 changed_of tables change row None = changed_at tables change row (change.from == row.last)
 
 -- A change of the price of a device.
@@ -190,14 +206,16 @@ change_to serial from price = record { serial = serial; from = from; price = pri
 -- What the ledger does with a command.
 abbrev pub done : (List ℕ → ℕ → ℕ) → Tables → Command → Done
 done next tables (command_is.Enroll enrol) = enrolled tables enrol (row_of tables enrol.serial)
-done next tables (command_is.Pay id serial amount) = asked next tables id serial (asks.Pay amount) (row_of tables serial)
+done next tables (command_is.Pay id serial amount) =
+    asked next tables id serial (asks.Pay amount) (row_of tables serial)
 done next tables (command_is.Set id serial units) = asked next tables id serial (asks.Set units) (row_of tables serial)
 done next tables (command_is.Disable id serial) = asked next tables id serial asks.Disable (row_of tables serial)
 done next tables (command_is.Sync id serial) = asked next tables id serial asks.Sync (row_of tables serial)
 done next tables (command_is.Order id) = stays tables (told_order tables (order_of tables id))
 done next tables (command_is.Show serial) = stays tables (told_row (row_of tables serial))
 done next tables (command_is.Raise serial) = raises tables (row_of tables serial)
-done next tables (command_is.Price serial from price) = repriced tables (change_to serial from price) (row_of tables serial)
+done next tables (command_is.Price serial from price) =
+    repriced tables (change_to serial from price) (row_of tables serial)
 
 -- What a device is enrolled with is in range.
 pub record EnrolIsInRange (enrol : Enrol) : Type 0 where

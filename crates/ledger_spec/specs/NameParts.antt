@@ -27,7 +27,8 @@ padded_front n bytes is =
     ap (λ k. take n bytes ++ replicate (32 - k) 0) (length_front n bytes is) ∙ ap (λ rest. take n bytes ++ rest) (sym is.rest) ∙ take-append-drop n bytes
 
 -- Bytes that are copied over the front of 32 zeros.
-pub copied_is_padded : (n : ℕ) (bytes : List ℕ) → length bytes ≡ n → n ≤ 32 → IsPadded n (bytes ++ drop n (replicate 32 0))
+pub copied_is_padded : (n : ℕ) (bytes : List ℕ) → length bytes ≡ n → n ≤ 32
+    → IsPadded n (bytes ++ drop n (replicate 32 0))
 copied_is_padded n bytes size fits =
     let zeros : List ℕ = replicate 32 0 in
     let many : length zeros ≡ 32 = refl in

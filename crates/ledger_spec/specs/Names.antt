@@ -5,7 +5,9 @@ use Rattle.std.specs.Str.{bytes_eq}
 
 -- A byte that a name may have: a letter, a digit, `-` or `_`.
 abbrev pub is_name_byte : ℕ → Bool
-is_name_byte b = (nat_le 65 b && nat_le b 90) || ((nat_le 97 b && nat_le b 122) || ((nat_le 48 b && nat_le b 57) || ((b == 45) || (b == 95))))
+is_name_byte b =
+    (nat_le 65 b && nat_le b 90)
+    || ((nat_le 97 b && nat_le b 122) || ((nat_le 48 b && nat_le b 57) || ((b == 45) || (b == 95))))
 
 -- Whether these bytes are a name of at most this length.
 abbrev pub may_be_name : ℕ → List ℕ → Bool

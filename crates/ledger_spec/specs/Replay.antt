@@ -35,25 +35,37 @@ pub record Booked : Type 0 where
 abbrev pub paid_in : ℕ → ℕ → ℕ → Account → Booked
 paid_in price total amount account =
     if nat_lt (account.paid + amount) total
-    then record { kind = kind_is.Add; value = (account.rest + amount) / price; account = record account { paid = account.paid + amount; rest = (account.rest + amount) % price } }
-    else record { kind = kind_is.Disable; value = 998; account = record { paid = account.paid + amount; rest = 0; closed = true } }
+    then record {
+      kind = kind_is.Add;
+      value = (account.rest + amount) / price;
+      account = record account { paid = account.paid + amount; rest = (account.rest + amount) % price };
+    }
+    else record {
+      kind = kind_is.Disable;
+      value = 998;
+      account = record { paid = account.paid + amount; rest = 0; closed = true };
+    }
 
 -- What an order for this does to an account, at a price and a total.
 abbrev pub booked : ℕ → ℕ → Ask → Account → Booked
 booked price total (Pay amount) account = paid_in price total amount account
-booked price total (Set units) account = record { kind = kind_is.Set; value = units; account = record account { closed = false } }
-booked price total Disable account = record { kind = kind_is.Disable; value = 998; account = record account { closed = true } }
+booked price total (Set units) account =
+    record { kind = kind_is.Set; value = units; account = record account { closed = false } }
+booked price total Disable account =
+    record { kind = kind_is.Disable; value = 998; account = record account { closed = true } }
 booked price total Sync account = record { kind = kind_is.Sync; value = 999; account = account }
 
 -- The account of a device after its orders, the newest first, where each count has a price.
 abbrev pub account_after : (ℕ → ℕ) → ℕ → List Order → Account
 account_after price total [] = no_account
-account_after price total (order ∷ orders) = (booked (price order.count) total order.ask (account_after price total orders)).account
+account_after price total (order ∷ orders) =
+    (booked (price order.count) total order.ask (account_after price total orders)).account
 
 -- The same from the oldest order on, which stand by rising count.
 abbrev pub account_from : (ℕ → ℕ) → ℕ → Account → List Order → Account
 account_from price total account [] = account
-account_from price total account (order ∷ orders) = account_from price total (booked (price order.count) total order.ask account).account orders
+account_from price total account (order ∷ orders) =
+    account_from price total (booked (price order.count) total order.ask account).account orders
 
 -- Each of the orders, the newest first, has the kind and the value that it has to have after the older ones.
 abbrev pub AreBooked : (ℕ → ℕ) → ℕ → List Order → Type 0

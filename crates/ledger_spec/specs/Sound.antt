@@ -29,16 +29,20 @@ paid_with _ = 0
 -- What was paid for a device with these orders.
 abbrev pub paid_by : List Order → List ℕ → ℕ
 paid_by [] serial = 0
-paid_by (order ∷ orders) serial = (if same_name order.serial serial then paid_with order.ask else 0) + paid_by orders serial
+paid_by (order ∷ orders) serial =
+    (if same_name order.serial serial then paid_with order.ask else 0) + paid_by orders serial
 
 -- The tables are in order; each order is one that was issued for its row; the orders of one device have different counts;
 -- and each row is what its orders and the changes of its price come to.
 pub record Sound (next : List ℕ → ℕ → ℕ) (tables : Tables) : Type 0 where
   pub kept : Kept tables
-  pub issued : (id : List ℕ) (order : Order) (row : Row) → order_of tables id ≡ Some order → row_of tables order.serial ≡ Some row → IsIssued next row order
-  pub counts : (id other : List ℕ) (order second : Order) → order_of tables id ≡ Some order → order_of tables other ≡ Some second
+  pub issued : (id : List ℕ) (order : Order) (row : Row) → order_of tables id ≡ Some order
+      → row_of tables order.serial ≡ Some row → IsIssued next row order
+  pub counts : (id other : List ℕ) (order second : Order) → order_of tables id ≡ Some order
+      → order_of tables other ≡ Some second
       → order.serial ≡ second.serial → order.count ≡ second.count → order ≡ second
-  pub replayed : (serial : List ℕ) (row : Row) → row_of tables serial ≡ Some row → IsReplayed (orders_back tables serial) (prices_for tables serial) row
+  pub replayed : (serial : List ℕ) (row : Row) → row_of tables serial ≡ Some row
+      → IsReplayed (orders_back tables serial) (prices_for tables serial) row
 
 -- No step leads out of the codes.
 abbrev pub StaysBelow : (List ℕ → ℕ → ℕ) → Type 0

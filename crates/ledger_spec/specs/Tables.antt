@@ -61,7 +61,8 @@ with_row row tables = record { rows = row ∷ tables.rows; orders = tables.order
 
 -- The tables with a new order, and with this row in the place of the kept one.
 abbrev pub with_order : Order → Row → Tables → Tables
-with_order order row tables = record { rows = rows_with row tables.rows; orders = order ∷ tables.orders; changes = tables.changes }
+with_order order row tables =
+    record { rows = rows_with row tables.rows; orders = order ∷ tables.orders; changes = tables.changes }
 
 -- Whether this is a change of the device's price.
 abbrev pub is_change_of : List ℕ → PriceChange → Bool
@@ -95,7 +96,8 @@ change_of tables serial from = change_in tables.changes serial from
 -- the given price.
 abbrev pub price_among : ℕ → ℕ → List PriceChange → ℕ
 price_among price count [] = price
-price_among price count (change ∷ changes) = price_among (if nat_lt change.from count then change.price else price) count changes
+price_among price count (change ∷ changes) =
+    price_among (if nat_lt change.from count then change.price else price) count changes
 
 -- The price of one unit at a count: that of the row's change with the greatest `from` below the count, or the row's price.
 abbrev pub price_at : Tables → Row → ℕ → ℕ
@@ -116,7 +118,8 @@ rows_raised (Some row) rows = rows_with (raised_row row) rows
 
 -- The tables with the raised limit in a row that was found, if one was.
 abbrev pub raised_by : Option Row → Tables → Tables
-raised_by found tables = record { rows = rows_raised found tables.rows; orders = tables.orders; changes = tables.changes }
+raised_by found tables =
+    record { rows = rows_raised found tables.rows; orders = tables.orders; changes = tables.changes }
 
 -- The tables with the raised limit in the row of a device.
 abbrev pub with_raised : List ℕ → Tables → Tables
@@ -173,7 +176,8 @@ AreOrders rows (order ∷ orders) =
 abbrev pub AreChanges : List Row → List PriceChange → Type 0
 AreChanges rows [] = Unit {0}
 AreChanges rows (change ∷ changes) =
-    ChangeIsInRange change × (change_in changes change.serial change.from ≡ None) × IsSome (row_in rows change.serial) × AreChanges rows changes
+    ChangeIsInRange change × (change_in changes change.serial change.from ≡ None) × IsSome (row_in rows change.serial)
+    × AreChanges rows changes
 
 -- The tables are in order: serials differ, ids differ, the changes of one device differ in the count from which they hold,
 -- each order and each change is that of a device with a row, and all are in range.

@@ -6,7 +6,7 @@ ghost use Rattle.paygo_spec.specs.Clock.{divides_day};
 ghost use Rattle.ledger_spec.specs.Reading.{text_at, whole_at, number_at, is_within, verb_of, verb_in, serial_in, id_in, secret_in, start_in, divider_in, form_in, price_in, total_in, amount_in, units_in, from_in};
 
 use ledger_spec::{Name, Verb};
-use paygo_spec::{DAY, Form, GREAT};
+use paygo_spec::{Form, GREAT, is_divider};
 use serde_json::Value;
 
 // The text of a member.
@@ -91,13 +91,6 @@ pub(crate) fn start(value: &Value) -> Option<u32>
 {
     let n = number(value, "start", 0, 999_999_999)?;
     Some(n as u32)
-}
-
-// Whether a day has a whole number of seconds for so many units.
-fn is_divider(n: u64) -> bool
-    ensures { result ≡ divides_day n }
-{
-    n > 0 && n < 256 && u64::from(DAY) % n == 0
 }
 
 // `divider`

@@ -5,13 +5,12 @@ use Rattle.std.specs.Io.KnownBytes.{IsAtEnd}
 use Rattle.std.specs.Prelude.{IfSome, is_some}
 use Rattle.paygo_spec.specs.declared.Event.{Event}
 use Rattle.paygo_spec.specs.declared.Reply.{Reply}
-use Rattle.paygo_spec.specs.declared.Reply.TheVariants.{Down}
-use Rattle.paygo_spec.specs.Faults.{Rose}
+use Rattle.paygo_spec.specs.Faults.{raised}
 use Rattle.paygo_spec.specs.Flash.{FlashView}
-use Rattle.paygo_spec.specs.Machine.{State, Stored, StandsAs, Acts}
+use Rattle.paygo_spec.specs.Machine.{State, Stored, StandsAs, Acts, FaultsBy}
 use Rattle.paygo_spec.specs.Pad.{kept_of, no_keys}
 use Rattle.paygo_spec.specs.Recovery.{Recovered, recover}
-use Rattle.paygo_spec.specs.Streams.{SourceView, SinkView, raised}
+use Rattle.paygo_spec.specs.Streams.{SourceView, SinkView}
 use Rattle.ledger_spec.specs.Keeper.{KeeperView}
 use Rattle.ledger_spec.specs.Sound.{StaysBelow}
 use Rattle.ledger_spec.specs.Tables.{Tables}
@@ -22,19 +21,19 @@ use Rattle.run_spec.specs.declared.Status.TheVariants as status
 use Rattle.run_spec.specs.Run.{World, beginning}
 use Rattle.run_spec.specs.Unseen.{ActsUnseen}
 use Rattle.run_spec.specs.Ran.{Agree, uses_keeper, uses_flash}
-use Rattle.run_spec.specs.Downs.{RisesAtDowns, downs}
-use Rattle.run_laws.proofs.Faults.{acts_later, acts_rose, unseen_later, unseen_rose, rises_by, no_down_by, few_downs_by}
+use Rattle.run_laws.proofs.Faults.{acts_count, unseen_count, downs_counted_by}
 use Rattle.device_core.specs.declared.device.Device.{Device}
 use Rattle.device_core.specs.Memory.{Agrees, Recalls, Backs, Holds, found_by, is_on}
 use Rattle.bench_run.specs.Reader.{LinesView, Came, IsLine}
 use Rattle.bench_run.specs.Bench.{desk, IsAt}
 use Rattle.bench_run.proofs.Gathering.{raised-raised}
 use Rattle.bench_run.proofs.Runs.{agree_at}
-use Rattle.line_loop.specs.Runs.{NeverFalls, Causes, IsLong, StaysAside, Reads, Ran, RunOf, RunUnseen}
+use Rattle.line_loop.specs.Runs.{Causes, IsLong, StaysAside, Reads, Ran, RunOf, RunUnseen}
 use Rattle.line_loop.specs.Turn.{Parts, Turns, Turned}
 use Rattle.line_loop.proofs.Looping.{out, next_left, SoFar, Ended, went_on, run_ends}
 use Rattle.line_loop.proofs.Promising.{stand, promise, same_device}
 use Rattle.line_loop.proofs.Sides.{aside}
+use Rattle.line_loop.proofs.Turning.{calm, causes_then}
 
 -- What was read up to here of a source that tells its bytes.
 pub record SoRead (bytes : List ℕ) (lines : LinesView) (source : SourceView) : Type 0 where
@@ -74,7 +73,7 @@ pub record Going (next : List ℕ → ℕ → ℕ) (mode : Mode) (old now : Part
   pub unended : now.lines.ended ≡ false → 0 < now.lines.taken → now.source.ended ≡ false
   pub ended : now.lines.ended ≡ true → (now.source.ended ≡ true) × IsAtEnd now.source.left
   pub so_read : (bytes : List ℕ) → old.source.left ≡ Some bytes → SoRead bytes now.lines now.source
-  pub later : NeverFalls (out old) (out now)
+  pub causes : Causes None (out old) (out now)
   pub seen : (bytes before : List ℕ) (start : World) → old.source.left ≡ Some bytes → old.desk.sink.written ≡ Some before → IsAt Agrees mode old.desk start → SoFar (Acts next) Agrees next mode bytes before start now
   pub unseen : (bytes before : List ℕ) (start : World) → old.source.left ≡ Some bytes → old.desk.sink.written ≡ Some before → IsAt Recalls mode old.desk start → SoFar (ActsUnseen next) Recalls next mode bytes before start now
 
@@ -100,13 +99,12 @@ begins next mode old lines = record {
   unended = λ e some. absurd (omega (arith, some, ap (λ (l : LinesView). l.taken) lines));
   ended = λ e. absurd (let both : false ≡ true = sym (ap (λ (l : LinesView). l.ended) lines) ∙ e in cc);
   so_read = λ bytes left. record { taken = []; rest = bytes; split = refl; left = left; counted = sym (ap (λ (l : LinesView). l.taken) lines) };
-  later = record { source_count = omega arith; sink_count = omega arith; keeper_count = omega arith; flash_count = omega arith };
+  causes = calm (out old);
   seen = none_yet (Acts next) Agrees next mode old lines;
   unseen = none_yet (ActsUnseen next) Recalls next mode old lines;
 }
 
-module _ (next : List ℕ → ℕ → ℕ) (mode : Mode) (first old new : Parts) (going : Going next mode first old) (came : List ℕ) (counts : Came came old.lines new.lines old.source new.source)
-    (sink : old.desk.sink.faults ≤ new.desk.sink.faults) (keeper : old.desk.keeper.faults ≤ new.desk.keeper.faults) (flash : old.desk.flash.faults ≤ new.desk.flash.faults) where
+module _ (next : List ℕ → ℕ → ℕ) (mode : Mode) (first old new : Parts) (going : Going next mode first old) (came : List ℕ) (counts : Came came old.lines new.lines old.source new.source) where
   taken_by : new.source.taken ≡ raised first.source.taken new.lines.taken
   taken_by = counts.taken ∙ ap (λ n. raised n (length came)) going.taken ∙ raised-raised first.source.taken old.lines.taken (length came) ∙ ap (raised first.source.taken) (sym counts.counted)
 
@@ -138,24 +136,16 @@ module _ (next : List ℕ → ℕ → ℕ) (mode : Mode) (first old new : Parts)
         counted = length-append was.taken came ∙ ap (λ n. n + length came) was.counted ∙ sym counts.counted;
       }
 
-  pub later_now : NeverFalls (out first) (out new)
-  later_now = record {
-    source_count = omega (arith, going.later.source_count, counts.later);
-    sink_count = omega (arith, going.later.sink_count, sink);
-    keeper_count = omega (arith, going.later.keeper_count, keeper);
-    flash_count = omega (arith, going.later.flash_count, flash);
-  }
-
   -- a turn that goes on
-  pub keeps_going : Turns next mode None came old new → Going next mode first new
-  keeps_going turns = record {
+  pub keeps_going : Causes None (out old) (out new) → Turns next mode None came old new → Going next mode first new
+  keeps_going causes turns = record {
     budget = counts.budget ∙ going.budget;
     most = counts.most;
     taken = taken_by;
     unended = unended_now;
     ended = told_by old.lines.ended refl;
     so_read = read_now;
-    later = later_now;
+    causes = causes_then None (out first) (out old) (out new) going.causes causes;
     seen = λ bytes before start left written is_at.
         went_on (Acts next) Agrees next mode bytes before start old new (going.seen bytes before start left written is_at) came counts turns.line turns.is_line turns.works.seen;
     unseen = λ bytes before start left written is_at.
@@ -164,16 +154,6 @@ module _ (next : List ℕ → ℕ → ℕ) (mode : Mode) (first old new : Parts)
 
   pub told_now : new.lines.ended ≡ true → new.source.ended ≡ true
   told_now told = (told_by old.lines.ended refl told).0
-
-  -- who is to blame where the run ends
-  pub causes : (result : Status) → Turns next mode (Some result) came old new → Causes result (out first) (out new)
-  causes status.Ok turns = tt
-  causes status.Usage turns = tt
-  causes status.Read turns = omega (arith, turns.3, going.later.source_count)
-  causes status.Write turns = omega (arith, turns.1, going.later.sink_count)
-  causes status.Keep turns = omega (arith, turns.1, going.later.keeper_count)
-  causes status.Memory turns = tt
-  causes status.Long turns = tt
 
   -- where it ends well, the source has told its end
   pub told_end : (result : Status) → Turns next mode (Some result) came old new → result ≡ status.Ok → new.source.ended ≡ true
@@ -224,16 +204,14 @@ module _ (next : List ℕ → ℕ → ℕ) (mode : Mode) (first old new : Parts)
   reads result turns bytes left = by_status result turns bytes (read_now bytes left)
 
   -- what became of the whole run
-  whole : (acts : Event → Option Reply → State → State → Type 0) (stands : Device → FlashView → State → Type 0) → ((event : Event) (reply : Option Reply) (old new : State) → acts event reply old new → old.faults ≤ new.faults)
-      → ((event : Event) (old new : State) → acts event (Some Down) old new → Rose old.faults new.faults) → ((device : Device) (flash : FlashView) (state : State) → stands device flash state → state.faults ≡ flash.faults)
+  whole : (acts : Event → Option Reply → State → State → Type 0) (stands : Device → FlashView → State → Type 0) → ((event : Event) (reply : Option Reply) (old new : State) → acts event reply old new → FaultsBy reply old.faults new.faults) → ((device : Device) (flash : FlashView) (state : State) → stands device flash state → state.faults ≡ flash.faults)
       → (mode ≡ mode_is.Serve → new.desk.flash ≡ first.desk.flash) → (result : Status) (bytes before : List ℕ) (start : World) → start.device.faults ≡ first.desk.flash.faults
       → (ends : Ended acts stands next mode result bytes before start new) → (ran : Ran acts next mode result bytes before start (out new)) × IsRan acts stands next mode result bytes before start new ends ran
-  whole acts stands later rose counted same result bytes before start begun ends =
+  whole acts stands by_reply counted same result bytes before start begun ends =
       let stays = same_device next mode result new.source.ended ends.taken ends.steps ends.reached ends.world ends.ends in
       let sides = aside acts next mode result new.source.ended ends.taken ends.steps ends.answers start ends.reached ends.world ends.run ends.ends stays in
       let count : new.desk.flash.faults ≡ ends.reached.device.faults =
-      sym (count_now mode start ends.world new.desk.flash first.desk.flash (λ uses. counted new.desk.device new.desk.flash ends.world.device (ends.is_at.device uses)) sides same begun) ∙ ap (λ (s : State). s.faults) stays in
-      let counts = rises_by acts later rose next start ends.reached ends.steps ends.answers ends.run in (
+      sym (count_now mode start ends.world new.desk.flash first.desk.flash (λ uses. counted new.desk.device new.desk.flash ends.world.device (ends.is_at.device uses)) sides same begun) ∙ ap (λ (s : State). s.faults) stays in (
         record {
           taken = ends.taken;
           rest = ends.rest;
@@ -247,11 +225,7 @@ module _ (next : List ℕ → ℕ → ℕ) (mode : Mode) (first old new : Parts)
           ends = ends.ends;
           written = ends.written;
           aside = sides;
-          counts = counts.0;
-          rises = subst (λ (n : ℕ). RisesAtDowns start.device.faults ends.answers counts.0 n) (sym count) counts.1;
-          no_down = λ still small. no_down_by acts later rose next start ends.reached ends.steps ends.answers ends.run (sym count ∙ still) small;
-          few_downs = λ small. subst (λ (n : ℕ). start.device.faults + downs ends.answers ≤ n) (sym count)
-              (few_downs_by acts later rose next start ends.reached ends.steps ends.answers ends.run (subst (λ (n : ℕ). n < 2 ^ 64 - 1) count small));
+          downs_are = count ∙ downs_counted_by acts by_reply next start ends.reached ends.steps ends.answers ends.run;
         },
         record { is_at = ends.is_at },
       )
@@ -261,7 +235,7 @@ module _ (next : List ℕ → ℕ → ℕ) (mode : Mode) (first old new : Parts)
       → IsAt Agrees mode first.desk start → RunOf next mode result bytes before start (out new)
   run_of below same result turns bytes before start left written begun is_at =
       let ends = run_ends (Acts next) Agrees next mode bytes before start old new (going.seen bytes before start left written is_at) came counts (λ steps result works. works.seen) told_now result turns in
-      let ran = whole (Acts next) Agrees (acts_later next) (acts_rose next) (λ device flash state agrees. agrees.stand.faults) same result bytes before start begun ends in
+      let ran = whole (Acts next) Agrees (acts_count next) (λ device flash state agrees. agrees.stand.faults) same result bytes before start begun ends in
       record {
         ran = ran.0;
         agree = agree_at mode new.desk ran.0.now ran.1.is_at;
@@ -274,16 +248,15 @@ module _ (next : List ℕ → ℕ → ℕ) (mode : Mode) (first old new : Parts)
       → IsAt Recalls mode first.desk start → RunUnseen next mode result bytes before start (out new)
   run_unseen same result turns bytes before start left written begun is_at =
       let ends = run_ends (ActsUnseen next) Recalls next mode bytes before start old new (going.unseen bytes before start left written is_at) came counts (λ steps result works. works.unseen) told_now result turns in
-      let ran = whole (ActsUnseen next) Recalls (unseen_later next) (unseen_rose next) (λ device flash state recalls. recalls.faults_are) same result bytes before start begun ends in
+      let ran = whole (ActsUnseen next) Recalls (unseen_count next) (λ device flash state recalls. recalls.faults_are) same result bytes before start begun ends in
       record { ran = ran.0; tables = ran.1.is_at.tables }
 
 -- What is promised of a whole run, where it ends with this status.
 pub record Promised (next : List ℕ → ℕ → ℕ) (mode : Mode) (result : Status) (first new : Parts) : Type 0 where
   pub usage : result ≢ status.Usage
   pub device : mode ≡ mode_is.Device → (result ≢ status.Keep) × (result ≢ status.Memory)
-  pub later : NeverFalls (out first) (out new)
   pub told : result ≡ status.Ok → new.source.ended ≡ true
-  pub causes : Causes result (out first) (out new)
+  pub causes : Causes (Some result) (out first) (out new)
   pub long : IsLong result first.source new.source
   pub read : (bytes : List ℕ) → first.source.left ≡ Some bytes → Reads result bytes new.source
   pub run : (bytes before : List ℕ) (start : World) → first.source.left ≡ Some bytes → first.desk.sink.written ≡ Some before → start.device.faults ≡ first.desk.flash.faults → IsAt Agrees mode first.desk start
@@ -296,23 +269,21 @@ not_usage next mode came old new status.Usage turns = absurd turns
 not_usage next mode came old new _ turns = λ e. cc
 
 not_ledger : (next : List ℕ → ℕ → ℕ) (mode : Mode) (came : List ℕ) (old new : Parts) (result : Status) → Turns next mode (Some result) came old new → mode ≡ mode_is.Device → (result ≢ status.Keep) × (result ≢ status.Memory)
-not_ledger next mode came old new status.Keep turns is = absurd ((turns.0.ledger tt).0 is)
+not_ledger next mode came old new status.Keep turns is = absurd ((turns.ledger tt).0 is)
 not_ledger next mode came old new status.Memory turns is = absurd ((turns.ledger tt).0 is)
 not_ledger next mode came old new _ turns is = (λ e. cc, λ e. cc)
 
 pub ends : (next : List ℕ → ℕ → ℕ) (mode : Mode) (first old new : Parts) (result : Status) → Going next mode first old → Turned next mode (Some result) old new
-    → old.desk.sink.faults ≤ new.desk.sink.faults → old.desk.keeper.faults ≤ new.desk.keeper.faults → old.desk.flash.faults ≤ new.desk.flash.faults
-    → StaysBelow next → (mode ≡ mode_is.Serve → new.desk.flash ≡ first.desk.flash) → Promised next mode result first new
-ends next mode first old new result going turned sink keeper flash below same = record {
+    → Causes (Some result) (out old) (out new) → StaysBelow next → (mode ≡ mode_is.Serve → new.desk.flash ≡ first.desk.flash) → Promised next mode result first new
+ends next mode first old new result going turned blames below same = record {
   usage = not_usage next mode turned.came old new result turned.turns;
   device = not_ledger next mode turned.came old new result turned.turns;
-  later = later_now next mode first old new going turned.came turned.counts sink keeper flash;
-  told = told_end next mode first old new going turned.came turned.counts sink keeper flash result turned.turns;
-  causes = causes next mode first old new going turned.came turned.counts sink keeper flash result turned.turns;
-  long = is_long next mode first old new going turned.came turned.counts sink keeper flash result turned.turns;
-  read = reads next mode first old new going turned.came turned.counts sink keeper flash result turned.turns;
-  run = run_of next mode first old new going turned.came turned.counts sink keeper flash below same result turned.turns;
-  unseen = run_unseen next mode first old new going turned.came turned.counts sink keeper flash same result turned.turns;
+  told = told_end next mode first old new going turned.came turned.counts result turned.turns;
+  causes = causes_then (Some result) (out first) (out old) (out new) going.causes blames;
+  long = is_long next mode first old new going turned.came turned.counts result turned.turns;
+  read = reads next mode first old new going turned.came turned.counts result turned.turns;
+  run = run_of next mode first old new going turned.came turned.counts below same result turned.turns;
+  unseen = run_unseen next mode first old new going turned.came turned.counts same result turned.turns;
 }
 
 -- a turn that took a line brings the run nearer to its end

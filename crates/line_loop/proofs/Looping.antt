@@ -309,8 +309,8 @@ module _ (acts : Event → Option Reply → State → State → Type 0) (stands 
   pub run_ends : ((steps : List Step) (result : Result (Unit {0}) LineFault) → Works next mode steps result old.desk new.desk → WorksBy acts stands next mode steps result old.desk new.desk) → (new.lines.ended ≡ true → new.source.ended ≡ true) → (result : Status) → Turns next mode (Some result) came old new → Ended acts stands next mode result bytes before start new
   run_ends by told status.Ok turns = stayed status.Ok turns.3 (all_done so_far.gone refl turns.0 so_far.place, refl) so_far.done.written
   run_ends by told status.Usage turns = absurd turns
-  run_ends by told status.Read turns = stayed status.Read turns.4 (whole_done turns.0 turns.2 so_far.place, refl) so_far.done.written
-  run_ends by told status.Write turns = was_cut turns.0.line turns.0.is_line told (by (steps_of_line mode turns.0.line) (Err fault.Write) turns.0.works)
-  run_ends by told status.Keep turns = keeper_failed turns.0.line turns.0.is_line told (turns.0.ledger tt).1 (by (steps_of_line mode turns.0.line) (Err fault.Keep) turns.0.works)
+  run_ends by told status.Read turns = stayed status.Read turns.3 (whole_done turns.0 turns.2 so_far.place, refl) so_far.done.written
+  run_ends by told status.Write turns = was_cut turns.line turns.is_line told (by (steps_of_line mode turns.line) (Err fault.Write) turns.works)
+  run_ends by told status.Keep turns = keeper_failed turns.line turns.is_line told (turns.ledger tt).1 (by (steps_of_line mode turns.line) (Err fault.Keep) turns.works)
   run_ends by told status.Memory turns = no_memory turns.line turns.is_line told (turns.ledger tt).1 (by (steps_of_line mode turns.line) (Err fault.Memory) turns.works)
   run_ends by told status.Long turns = stayed status.Long turns.3 (whole_done turns.0 turns.2 so_far.place, refl) so_far.done.written

@@ -1,12 +1,12 @@
 -- What is promised of a whole run.
-use Rattle.std.specs.Prelude.{◌≡◌, ℕ, ◌+◌, ◌-◌, ◌^◌, ◌<◌, ◌≤◌, true, false, List, [], ◌++◌, length, Option, Some}
+use Rattle.std.specs.Prelude.{◌≡◌, ℕ, ◌-◌, ◌^◌, ◌<◌, ◌≤◌, Bool, true, false, List, [], ◌++◌, length, Option, Some}
 use Rattle.paygo_spec.specs.declared.Event.{Event}
 use Rattle.paygo_spec.specs.declared.Reply.{Reply}
-use Rattle.paygo_spec.specs.Faults.{Rose}
-use Rattle.paygo_spec.specs.Flash.{FlashView}
+use Rattle.paygo_spec.specs.Faults.{raised, Rose}
+use Rattle.paygo_spec.specs.Flash.{FlashView, KeepsPlan}
 use Rattle.paygo_spec.specs.Machine.{State, Stored, Acts}
 use Rattle.paygo_spec.specs.Searched.{SearchedOn}
-use Rattle.paygo_spec.specs.Streams.{SourceView, SinkView, raised}
+use Rattle.paygo_spec.specs.Streams.{SourceView, SinkView}
 use Rattle.ledger_spec.specs.Keeper.{KeeperView}
 use Rattle.ledger_spec.specs.Sound.{Sound}
 use Rattle.ledger_spec.specs.Tables.{Tables, Kept}
@@ -16,7 +16,7 @@ use Rattle.run_spec.specs.declared.Status.TheVariants as status
 use Rattle.run_spec.specs.Run.{Step, World, Answer, RunBy, beginning}
 use Rattle.run_spec.specs.Unseen.{ActsUnseen}
 use Rattle.run_spec.specs.Ran.{Agree, EndsBy, WritesBy, uses_keeper, uses_flash}
-use Rattle.run_spec.specs.Downs.{RisesAtDowns, HasNoDown, downs}
+use Rattle.run_spec.specs.Downs.{downs}
 use Rattle.run_spec.specs.Headline.{OrdersStand, TokensOnce, UsablesTaken}
 
 -- What is seen of the four objects of a run.
@@ -29,24 +29,35 @@ pub record Outside : Type 0 where
 abbrev pub outside : SourceView → SinkView → KeeperView → FlashView → Outside
 outside source sink keeper flash = record { source = source; sink = sink; keeper = keeper; flash = flash }
 
--- No count of faults falls.
-pub record NeverFalls (old new : Outside) : Type 0 where
-  pub source_count : old.source.faults ≤ new.source.faults
-  pub sink_count : old.sink.faults ≤ new.sink.faults
-  pub keeper_count : old.keeper.faults ≤ new.keeper.faults
-  pub flash_count : old.flash.faults ≤ new.flash.faults
+-- One fault was counted if so, and else none.
+abbrev pub FaultIf : Bool → ℕ → ℕ → Type 0
+FaultIf true before now = Rose before now
+FaultIf false before now = now ≡ before
 
 -- A count of faults didn't rise, and doesn't stand still at the end of its type.
 pub record IsCalm (before now : ℕ) : Type 0 where
   pub same : now ≡ before
   pub small : now < 2 ^ 64 - 1
 
--- Who is to blame for the end of a run: the source at Read, the sink at Write, and the keeper at Keep.
-abbrev pub Causes : Status → Outside → Outside → Type 0
-Causes status.Read old new = Rose old.source.faults new.source.faults
-Causes status.Write old new = Rose old.sink.faults new.sink.faults
-Causes status.Keep old new = Rose old.keeper.faults new.keeper.faults
-Causes _ old new = Unit {0}
+-- Who is to blame for the end of a run, if it has ended: the source at Read, the sink at Write, and the keeper at Keep.
+abbrev pub is_read : Option Status → Bool
+is_read (Some status.Read) = true
+is_read _ = false
+
+abbrev pub is_write : Option Status → Bool
+is_write (Some status.Write) = true
+is_write _ = false
+
+abbrev pub is_keep : Option Status → Bool
+is_keep (Some status.Keep) = true
+is_keep _ = false
+
+-- Who is to blame had one fault, and no other of source, sink and keeper had one. Of the flash no more failed than was planned.
+pub record Causes (ended : Option Status) (old new : Outside) : Type 0 where
+  pub source : FaultIf (is_read ended) old.source.faults new.source.faults
+  pub sink : FaultIf (is_write ended) old.sink.faults new.sink.faults
+  pub keeper : FaultIf (is_keep ended) old.keeper.faults new.keeper.faults
+  pub flash : KeepsPlan old.flash new.flash
 
 -- The run was ended by one of its lines, whose answer or command failed.
 abbrev pub IsBroken : Status → Type 0
@@ -59,7 +70,8 @@ IsBroken _ = ⊥
 -- that stands still at 2^64 - 1 tells no number; and where a line failed, the run ends with that.)
 pub record IsLong (result : Status) (source source' : SourceView) : Type 0 where
   pub only : result ≡ status.Long → (source'.ended ≡ false) × (source'.taken ≡ raised source.taken (2 ^ 40))
-  pub always : source'.ended ≡ false → source'.taken ≡ raised source.taken (2 ^ 40) → source'.taken < 2 ^ 64 - 1 → (IsBroken result → ⊥) → result ≡ status.Long
+  pub always : source'.ended ≡ false → source'.taken ≡ raised source.taken (2 ^ 40) → source'.taken < 2 ^ 64 - 1
+      → (IsBroken result → ⊥) → result ≡ status.Long
 
 -- What a run leaves out stays: the tables in a run of a device, and the device in a run of the ledger.
 pub record StaysAside (mode : Mode) (start now : World) : Type 0 where
@@ -68,10 +80,10 @@ pub record StaysAside (mode : Mode) (start now : World) : Type 0 where
 
 -- What a run did: these bytes were taken of its source and those are left, these steps were taken, and that was answered to
 -- them, where this says what a device may reply to an event and what it goes on to. The steps are those of the lines by the
--- status, which also says what stands now, and which bytes were written. Behind each answer there is a count of faults of the
--- flash, from that before the run to that after it: none is below the one before it, and each `down` has a rise of its own. So
--- where the count didn't rise there is no `down`, and where it ends below 2^64 - 1 there are at most as many as it rose by.
-pub record Ran (acts : Event → Option Reply → State → State → Type 0) (next : List ℕ → ℕ → ℕ) (mode : Mode) (result : Status) (bytes before : List ℕ) (start : World) (new : Outside) : Type 0 where
+-- status, which also says what stands now, and which bytes were written. Each `down` is one fault of the flash, and nothing else
+-- is: its count is higher by as much as there are answers `down`, or stands still at 2^64 - 1.
+pub record Ran (acts : Event → Option Reply → State → State → Type 0) (next : List ℕ → ℕ → ℕ) (mode : Mode)
+    (result : Status) (bytes before : List ℕ) (start : World) (new : Outside) : Type 0 where
   pub taken : List ℕ
   pub rest : List ℕ
   pub split : bytes ≡ taken ++ rest
@@ -84,14 +96,12 @@ pub record Ran (acts : Event → Option Reply → State → State → Type 0) (n
   pub ends : EndsBy next mode result new.source.ended taken steps reached now
   pub written : WritesBy result before answers new.sink
   pub aside : StaysAside mode start now
-  pub counts : List ℕ
-  pub rises : RisesAtDowns start.device.faults answers counts new.flash.faults
-  pub no_down : new.flash.faults ≡ start.device.faults → start.device.faults < 2 ^ 64 - 1 → HasNoDown answers
-  pub few_downs : new.flash.faults < 2 ^ 64 - 1 → start.device.faults + downs answers ≤ new.flash.faults
+  pub downs_are : new.flash.faults ≡ raised start.device.faults (downs answers)
 
 -- What shop and customer are promised of a run from sound tables: they stay sound, each token of an order takes effect at
 -- most once on a device of which each accepted token was found, which stays so, and a token that may be used is accepted.
-pub record Promise (next : List ℕ → ℕ → ℕ) (start : World) (steps : List Step) (answers : List (Option Answer)) (reached now : World) : Type 0 where
+pub record Promise (next : List ℕ → ℕ → ℕ) (start : World) (steps : List Step) (answers : List (Option Answer))
+    (reached now : World) : Type 0 where
   pub sound : Sound next now.tables
   pub found : SearchedOn next start.device.stored → SearchedOn next now.device.stored
   pub once : SearchedOn next start.device.stored → TokensOnce next now.tables now.device.stored
@@ -109,7 +119,8 @@ pub record Reads (result : Status) (bytes : List ℕ) (source : SourceView) : Ty
 
 -- What is promised of a run whose keeper and flash tell what they hold: the answers are those of the machine, and keeper and
 -- flash stand for what it went on to. Over tables in order each order that was answered stands.
-pub record RunOf (next : List ℕ → ℕ → ℕ) (mode : Mode) (result : Status) (bytes before : List ℕ) (start : World) (new : Outside) : Type 0 where
+pub record RunOf (next : List ℕ → ℕ → ℕ) (mode : Mode) (result : Status) (bytes before : List ℕ) (start : World)
+    (new : Outside) : Type 0 where
   pub ran : Ran (Acts next) next mode result bytes before start new
   pub agree : Agree mode new.keeper new.flash ran.now
   pub stand : Kept start.tables → OrdersStand ran.steps ran.answers ran.now.tables
@@ -117,7 +128,8 @@ pub record RunOf (next : List ℕ → ℕ → ℕ) (mode : Mode) (result : Statu
 
 -- The same of a run whose flash tells no words, as a file tells none: each answer of the device is that of the machine by what
 -- the device has in memory.
-pub record RunUnseen (next : List ℕ → ℕ → ℕ) (mode : Mode) (result : Status) (bytes before : List ℕ) (start : World) (new : Outside) : Type 0 where
+pub record RunUnseen (next : List ℕ → ℕ → ℕ) (mode : Mode) (result : Status) (bytes before : List ℕ)
+    (start : World) (new : Outside) : Type 0 where
   pub ran : Ran (ActsUnseen next) next mode result bytes before start new
   pub tables : uses_keeper mode ≡ true → new.keeper.tables ≡ Some ran.now.tables
 
@@ -125,13 +137,15 @@ pub record RunUnseen (next : List ℕ → ℕ → ℕ) (mode : Mode) (result : S
 -- from whatever tables it found, and a device that is off on whatever its flash stands for.
 abbrev pub RunsTold : (List ℕ → ℕ → ℕ) → Mode → Status → Outside → Outside → Type 0
 RunsTold next mode result old new =
-    (bytes before : List ℕ) (tables : Tables) (stored : Stored) → old.source.left ≡ Some bytes → old.sink.written ≡ Some before →
+    (bytes before : List ℕ) (tables : Tables) (stored : Stored) → old.source.left ≡ Some bytes
+    → old.sink.written ≡ Some before →
     Agree mode old.keeper old.flash (beginning tables stored old.flash.faults) →
     RunOf next mode result bytes before (beginning tables stored old.flash.faults) new
 
 -- The same where nothing is asked of the flash, and nothing is said of its words.
 abbrev pub RunsUnseen : (List ℕ → ℕ → ℕ) → Mode → Status → Outside → Outside → Type 0
 RunsUnseen next mode result old new =
-    (bytes before : List ℕ) (tables : Tables) (stored : Stored) → old.source.left ≡ Some bytes → old.sink.written ≡ Some before →
+    (bytes before : List ℕ) (tables : Tables) (stored : Stored) → old.source.left ≡ Some bytes
+    → old.sink.written ≡ Some before →
     (uses_keeper mode ≡ true → old.keeper.tables ≡ Some tables) →
     RunUnseen next mode result bytes before (beginning tables stored old.flash.faults) new

@@ -4,7 +4,6 @@ use Rattle.run_spec.specs.declared.Mode.{Mode}
 use Rattle.run_spec.specs.declared.Mode.TheVariants as mode_is
 use Rattle.run_spec.specs.declared.Status.{Status}
 use Rattle.run_spec.specs.declared.Status.TheVariants as status
-use Rattle.paygo_spec.specs.Faults.{Rose}
 use Rattle.paygo_spec.specs.Streams.{SourceView}
 use Rattle.run_spec.specs.Lines.{whole_lines}
 use Rattle.run_spec.specs.Meaning.{is_ledger_text, trimmed, steps_of_line}
@@ -19,6 +18,9 @@ pub record Parts : Type 0 where
   pub source : SourceView
   pub desk : Desk
 
+abbrev pub parts : LinesView → SourceView → Desk → Parts
+parts lines source desk = record { lines = lines; source = source; desk = desk }
+
 -- The status with which a run ends where a line failed.
 abbrev pub ended_by : Result (Unit {0}) LineFault → Option Status
 ended_by (Ok done) = None
@@ -27,7 +29,8 @@ ended_by (Err fault.Keep) = Some status.Keep
 ended_by (Err fault.Memory) = Some status.Memory
 
 -- A line was taken, and that became of its steps.
-pub record TakesLine (next : List ℕ → ℕ → ℕ) (mode : Mode) (outcome : Result (Unit {0}) LineFault) (came : List ℕ) (old new : Parts) : Type 0 where
+pub record TakesLine (next : List ℕ → ℕ → ℕ) (mode : Mode) (outcome : Result (Unit {0}) LineFault) (came : List ℕ)
+    (old new : Parts) : Type 0 where
   pub line : List ℕ
   pub is_line : IsLine (old.lines.held ++ came) line new.lines
   pub works : Works next mode (steps_of_line mode line) outcome old.desk new.desk
@@ -37,14 +40,17 @@ pub record TakesLine (next : List ℕ → ℕ → ℕ) (mode : Mode) (outcome : 
 -- input, because of the source, or because all bytes were taken that may be.
 abbrev pub Turns : (List ℕ → ℕ → ℕ) → Mode → Option Status → List ℕ → Parts → Parts → Type 0
 Turns next mode None came old new = TakesLine next mode (Ok tt) came old new
-Turns next mode (Some status.Write) came old new = TakesLine next mode (Err fault.Write) came old new × Rose old.desk.sink.faults new.desk.sink.faults
-Turns next mode (Some status.Keep) came old new = TakesLine next mode (Err fault.Keep) came old new × Rose old.desk.keeper.faults new.desk.keeper.faults
+Turns next mode (Some status.Write) came old new = TakesLine next mode (Err fault.Write) came old new
+Turns next mode (Some status.Keep) came old new = TakesLine next mode (Err fault.Keep) came old new
 Turns next mode (Some status.Memory) came old new = TakesLine next mode (Err fault.Memory) came old new
-Turns next mode (Some status.Ok) came old new = (old.lines.held ++ came ≡ []) × (new.lines.held ≡ []) × (new.lines.ended ≡ true) × (new.desk ≡ old.desk)
+Turns next mode (Some status.Ok) came old new =
+    (old.lines.held ++ came ≡ []) × (new.lines.held ≡ []) × (new.lines.ended ≡ true) × (new.desk ≡ old.desk)
 Turns next mode (Some status.Read) came old new =
-    (whole_lines (old.lines.held ++ came) ≡ []) × (new.lines.taken < new.lines.budget) × (new.lines.ended ≡ false) × Rose old.source.faults new.source.faults × (new.desk ≡ old.desk)
+    (whole_lines (old.lines.held ++ came) ≡ []) × (new.lines.taken < new.lines.budget) × (new.lines.ended ≡ false)
+    × (new.desk ≡ old.desk)
 Turns next mode (Some status.Long) came old new =
-    (whole_lines (old.lines.held ++ came) ≡ []) × (new.lines.taken ≡ new.lines.budget) × (new.lines.ended ≡ false) × (new.desk ≡ old.desk)
+    (whole_lines (old.lines.held ++ came) ≡ []) × (new.lines.taken ≡ new.lines.budget) × (new.lines.ended ≡ false)
+    × (new.desk ≡ old.desk)
 Turns next mode (Some status.Usage) came old new = ⊥
 
 -- What a turn did, by the bytes that came in it.

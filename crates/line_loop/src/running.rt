@@ -3,8 +3,8 @@ ghost use Rattle.std.specs.Prelude.{◌≡◌, ◌≢◌, ◌≤◌, true, List,
 ghost use Rattle.run_spec.specs.declared.Mode.{Mode};
 ghost use Rattle.device_core.specs.Memory.{Holds};
 ghost use Rattle.bench_run.specs.Bench.{desk, of_line};
-ghost use Rattle.line_loop.specs.Runs.{outside, NeverFalls, Causes, IsLong, Reads, RunsTold, RunsUnseen};
-ghost use Rattle.line_loop.specs.Turn.{Turned, ended_by};
+ghost use Rattle.line_loop.specs.Runs.{outside, Causes, IsLong, Reads, RunsTold, RunsUnseen};
+ghost use Rattle.line_loop.specs.Turn.{parts, Turned, ended_by};
 
 use bench_run::{Bench, LineFault, Lines, LinesFault, Next};
 use ledger_keeper::Keeper;
@@ -29,12 +29,16 @@ fn turn<M: Mixer, S: Source, K: Sink, D: Keeper, F: Flash>(
 ) -> Option<Status>
     requires { Holds bench.old (F.view flash.old) }
     ensures holds { Holds bench.new (F.view flash.new) }
-    ensures later { ((K.view sink.old).faults ≤ (K.view sink.new).faults) × ((D.view keeper.old).faults ≤ (D.view keeper.new).faults) × ((F.view flash.old).faults ≤ (F.view flash.new).faults) }
+    ensures causes { Causes result
+        (outside (S.view source.old) (K.view sink.old) (D.view keeper.old) (F.view flash.old))
+        (outside (S.view source.new) (K.view sink.new) (D.view keeper.new) (F.view flash.new)) }
     ensures keeper { mode ≡ Mode.Device → keeper.new ≡ keeper.old }
     ensures flash { mode ≡ Mode.Serve → flash.new ≡ flash.old }
     ensures turned { Turned M.next mode result
-        (record { lines = lines.old; source = S.view source.old; desk = desk bench.old (D.view keeper.old) (F.view flash.old) (K.view sink.old) })
-        (record { lines = lines.new; source = S.view source.new; desk = desk bench.new (D.view keeper.new) (F.view flash.new) (K.view sink.new) }) }
+        (parts lines.old (S.view source.old)
+        (desk bench.old (D.view keeper.old) (F.view flash.old) (K.view sink.old)))
+        (parts lines.new (S.view source.new)
+        (desk bench.new (D.view keeper.new) (F.view flash.new) (K.view sink.new))) }
 {
     let mut line = [0u8; 4096];
     match lines.next(source, &mut line) {
@@ -71,8 +75,8 @@ fn long_ended(outcome: Result<(), WriteFault>) -> Option<Status>
 /// Runs the lines of the source over keeper and flash, of the side or sides that the mode takes, with a device that is off at
 /// first. Each answer is written before the next event happens or the next line is taken.
 ///
-/// It ends with `Ok` only where the source has told its end, and every line was answered; with `Read`, `Write` or `Keep` only
-/// where the count of faults of source, sink or keeper rose, or stands at 2^64 - 1; with `Long` exactly where 2^40 bytes were
+/// It ends with `Ok` only where the source has told its end, and every line was answered; with `Read`, `Write` or `Keep` where
+/// source, sink or keeper failed, once, and counted it, and no other of them has a fault; with `Long` exactly where 2^40 bytes were
 /// taken, the source hasn't told its end, and every whole line was answered; with `Memory` where there was none for a line of
 /// the ledger. It never ends with `Usage`, and in `Mode::Device` neither with `Keep` nor with `Memory`.
 ///
@@ -88,15 +92,21 @@ pub fn run_lines<M: Mixer, S: Source, K: Sink, D: Keeper, F: Flash>(
     flash: &mut F,
 ) -> Status
     ensures usage { result ≢ Status.Usage }
-    ensures keeper { mode ≡ Mode.Device → (keeper.new ≡ keeper.old) × (result ≢ Status.Keep) × (result ≢ Status.Memory) }
+    ensures keeper { mode ≡ Mode.Device →
+        (keeper.new ≡ keeper.old) × (result ≢ Status.Keep) × (result ≢ Status.Memory) }
     ensures flash { mode ≡ Mode.Serve → flash.new ≡ flash.old }
-    ensures later { NeverFalls (outside (S.view source.old) (K.view sink.old) (D.view keeper.old) (F.view flash.old)) (outside (S.view source.new) (K.view sink.new) (D.view keeper.new) (F.view flash.new)) }
     ensures ended { result ≡ Status.Ok → (S.view source.new).ended ≡ true }
-    ensures causes { Causes result (outside (S.view source.old) (K.view sink.old) (D.view keeper.old) (F.view flash.old)) (outside (S.view source.new) (K.view sink.new) (D.view keeper.new) (F.view flash.new)) }
+    ensures causes { Causes (Some result)
+        (outside (S.view source.old) (K.view sink.old) (D.view keeper.old) (F.view flash.old))
+        (outside (S.view source.new) (K.view sink.new) (D.view keeper.new) (F.view flash.new)) }
     ensures long { IsLong result (S.view source.old) (S.view source.new) }
     ensures read { (bytes : List ℕ) → (S.view source.old).left ≡ Some bytes → Reads result bytes (S.view source.new) }
-    ensures run { RunsTold M.next mode result (outside (S.view source.old) (K.view sink.old) (D.view keeper.old) (F.view flash.old)) (outside (S.view source.new) (K.view sink.new) (D.view keeper.new) (F.view flash.new)) }
-    ensures unseen { RunsUnseen M.next mode result (outside (S.view source.old) (K.view sink.old) (D.view keeper.old) (F.view flash.old)) (outside (S.view source.new) (K.view sink.new) (D.view keeper.new) (F.view flash.new)) }
+    ensures run { RunsTold M.next mode result
+        (outside (S.view source.old) (K.view sink.old) (D.view keeper.old) (F.view flash.old))
+        (outside (S.view source.new) (K.view sink.new) (D.view keeper.new) (F.view flash.new)) }
+    ensures unseen { RunsUnseen M.next mode result
+        (outside (S.view source.old) (K.view sink.old) (D.view keeper.old) (F.view flash.old))
+        (outside (S.view source.new) (K.view sink.new) (D.view keeper.new) (F.view flash.new)) }
 {
     let mut lines = Lines::new(BUDGET);
     let mut bench = Bench::<M>::start();

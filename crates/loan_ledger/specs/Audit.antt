@@ -1,15 +1,14 @@
 -- What an audit of the shop's tables finds: orders whose token is wrong, or whose count isn't clean. A customer who
 -- types such a token may get another thing than what was paid for, or nothing.
-use Rattle.std.specs.Prelude.{◌≡◌, ℕ, ◌≤◌, ◌-◌, ◌^◌, Bool, ◌&&◌, ◌==◌, not, List, length, map, filter, sum_by, min, Result, Err}
+use Rattle.std.specs.Prelude.{◌≡◌, ℕ, ◌-◌, ◌^◌, Bool, ◌&&◌, ◌==◌, not, List, length, map, filter, sum_by, min, Result}
 use Rattle.std.specs.List.{flat_map}
 use Rattle.paygo_spec.specs.Chain.{token_at}
-use Rattle.paygo_spec.specs.Faults.{Rose}
 use Rattle.ledger_spec.specs.declared.Row.{Row}
 use Rattle.ledger_spec.specs.declared.Order.{Order}
 use Rattle.ledger_spec.specs.declared.LedgerFault.{LedgerFault}
-use Rattle.ledger_spec.specs.declared.LedgerFault.TheVariants.{Keeper}
 use Rattle.ledger_spec.specs.Tables.{Tables}
 use Rattle.ledger_spec.specs.Issuing.{is_clean}
+use Rattle.ledger_spec.specs.Applied.{Blames}
 use Rattle.ledger_spec.specs.Keeper.{KeeperView}
 use Rattle.loan_ledger.specs.declared.findings.Audit.{Audit}
 use Rattle.ledger_spec.specs.Sorted.{orders_for, all_rows}
@@ -50,15 +49,17 @@ order_count tables rows = sum_by (λ row. length (orders_for tables row.serial))
 -- What an audit of some rows finds.
 abbrev pub found_in : (List ℕ → ℕ → ℕ) → Tables → List Row → Findings
 found_in next tables rows =
-    record { rows = length rows; orders = min (order_count tables rows) (2 ^ 64 - 1); wrong = wrong_of next tables rows }
+    record {
+      rows = length rows;
+      orders = min (order_count tables rows) (2 ^ 64 - 1);
+      wrong = wrong_of next tables rows;
+    }
 
 -- What an audit finds.
 abbrev pub audited : (List ℕ → ℕ → ℕ) → Tables → Findings
 audited next tables = found_in next tables (all_rows tables)
 
--- An audit over a keeper changes no table. The keeper's count of faults never falls, and it rose where the answer is
--- that the keeper failed.
+-- An audit over a keeper changes no table, and it says that the keeper failed where it did, once.
 pub record Audits {T : Type 0} (result : Result T LedgerFault) (old new : KeeperView) : Type 0 where
   pub tables : new.tables ≡ old.tables
-  pub later : old.faults ≤ new.faults
-  pub rose : result ≡ Err Keeper → Rose old.faults new.faults
+  pub faults : Blames result old.faults new.faults

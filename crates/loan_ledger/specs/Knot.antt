@@ -5,7 +5,8 @@ use Rattle.std.proofs.lemmas.Nat.{mod_below}
 
 -- The next code: two codes lead to where the other one would have led, and each other code steps by 7 thousands.
 abbrev pub knot_next : List ℕ → ℕ → ℕ
-knot_next key code = if code == 128349796 then 123470000 else if code == 123470000 then 128363796 else (code + 7000) % 10 ^ 9
+knot_next key code =
+    if code == 128349796 then 123470000 else if code == 123470000 then 128363796 else (code + 7000) % 10 ^ 9
 
 choice_below : (first : Bool) (a b : ℕ) → a < 10 ^ 9 → b < 10 ^ 9 → (if first then a else b) < 10 ^ 9
 choice_below true a b low high = low

@@ -23,8 +23,9 @@ use token_issue::Tables;
 ///
 /// # Errors
 ///
-/// `Keeper` only where the keeper's count of faults rose in this call: the tables are as before or have the whole change.
-/// `Memory` where there is none: the tables are as before.
+/// `Keeper` where the keeper failed, and the fault is counted, once: the tables are as before or have the whole change.
+/// `Memory` where there is none: the tables are as before. Where a command is answered, and where there is no memory,
+/// the keeper's count of faults stays: no fault of it is passed over.
 pub fn apply<M: Mixer, D: Keeper>(
     alloc: Global,
     keeper: &mut D,

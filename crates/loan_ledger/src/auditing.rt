@@ -140,8 +140,9 @@ fn audit_row<M: Mixer, D: Keeper>(
 ///
 /// # Errors
 ///
-/// `Keeper` only where the keeper's count of faults rose in this call, or stands at 2^64 - 1. `Memory` where there is
-/// none for the rows, for the orders of a row or for the ids of the wrong ones. The tables are as before in both cases.
+/// `Keeper` where the keeper failed, and the fault is counted, once. `Memory` where there is none for the rows, for the
+/// orders of a row or for the ids of the wrong ones. The tables are as before in both cases. Where an audit is
+/// answered, and where there is no memory, the keeper's count of faults stays: no fault of it is passed over.
 pub fn audit<M: Mixer, D: Keeper>(alloc: Global, keeper: &mut D) -> Result<Audit, LedgerFault>
     ensures audits { Audits result (D.view keeper.old) (D.view keeper.new) }
     ensures found { IfOk result (λ audit. IfSome (D.view keeper.old).tables (λ t.

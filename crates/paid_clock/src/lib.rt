@@ -7,7 +7,7 @@ ghost use Rattle.paygo_spec.specs.declared.Entry.TheVariants.{Accept, Bad, Elaps
 ghost use Rattle.paygo_spec.specs.History.{Summary};
 ghost use Rattle.paygo_spec.specs.Clock.{ClockView, clock_with, clock_after, clock_of, is_clock, IsClock, HasEffect, CameUnblocked};
 
-use paygo_spec::MOST_LEFT;
+use paygo_spec::{MOST_LEFT, TokenKind};
 use std::marker::Model;
 
 /// The number at which failures stop.
@@ -58,7 +58,8 @@ impl Clock {
         ensures rule { MatchOption result
             (¬ IsClock (clock_with left free fails block))
             (λ clock. (clock ≡ clock_with left free fails block) × IsClock clock) }
-        ensures test { let parts = clock_with left free fails block in result ≡ (if is_clock parts then Some parts else None) }
+        ensures test { let parts = clock_with left free fails block in result ≡
+            (if is_clock parts then Some parts else None) }
     {
         if left > MOST_LEFT || fails > MOST_FAILS || (free && left > 0) {
             return None;
@@ -77,11 +78,10 @@ impl Clock {
 
     /// What an accepted token of this count and value does, with a unit of so many seconds.
     ///
-    /// A set token, of an odd count, gives `value` units in place of the time left, and the device isn't free; with
-    /// the value 998 it frees the device, and with 999 it changes neither. An add token, of an even count, adds
-    /// `value` units, but not on a free device, and a sum above 1,000,000,000,000 seconds becomes that number. Each
-    /// sets the failures to 0. The caller sees to it that the value is one of these: at most 995, or for an odd count
-    /// 998 or 999; that the unit is at most 86,400 seconds; and that entries aren't blocked.
+    /// A set token gives `value` units in place of the time left, and the device isn't free; a disable token frees the
+    /// device, and a sync token changes neither. An add token adds `value` units, but not on a free device, and a sum
+    /// above 1,000,000,000,000 seconds becomes that number. Each sets the failures to 0. The caller sees to it that the
+    /// token is of one of these kinds, that the unit is at most 86,400 seconds, and that entries aren't blocked.
     pub fn credit(&mut self, count: u16, value: u16, unit: u32)
         requires effect { HasEffect count value }
         requires unit { unit ≤ 86400 }
@@ -89,16 +89,21 @@ impl Clock {
         ensures { self.new ≡ clock_after unit (Accept count value) self.old }
     {
         self.fails = 0;
-        if count % 2 == 1 {
-            if value <= 995 {
+        match TokenKind::of(count, value) {
+            Some(TokenKind::Add) => {
+                if !self.free {
+                    self.left = (self.left + value as u64 * unit as u64).min(MOST_LEFT);
+                }
+            }
+            Some(TokenKind::Set) => {
                 self.free = false;
                 self.left = value as u64 * unit as u64;
-            } else if value == 998 {
+            }
+            Some(TokenKind::Free) => {
                 self.free = true;
                 self.left = 0;
             }
-        } else if !self.free {
-            self.left = (self.left + value as u64 * unit as u64).min(MOST_LEFT);
+            Some(TokenKind::Sync) | None => {}
         }
     }
 

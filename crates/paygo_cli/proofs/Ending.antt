@@ -13,13 +13,13 @@ not_calm : (before now : ℕ) → Rose before now → IsCalm before now → ⊥
 not_calm before now rose calm = omega (arith, rose, calm.same, calm.small)
 
 -- where no count rose, no fault ended the run
-pub complete : (result : Status) (old new : Outside) → Causes result old new → result ≢ status.Usage → IsCalm old.source.faults new.source.faults → IsCalm old.sink.faults new.sink.faults → IsCalm old.keeper.faults new.keeper.faults
+pub complete : (result : Status) (old new : Outside) → Causes (Some result) old new → result ≢ status.Usage → IsCalm old.source.faults new.source.faults → IsCalm old.sink.faults new.sink.faults → IsCalm old.keeper.faults new.keeper.faults
     → (result ≡ status.Ok) ⊎ ((result ≡ status.Long) ⊎ (result ≡ status.Memory))
 complete status.Ok old new causes used source sink keeper = inl refl
 complete status.Usage old new causes used source sink keeper = absurd (used refl)
-complete status.Read old new causes used source sink keeper = absurd (not_calm old.source.faults new.source.faults causes source)
-complete status.Write old new causes used source sink keeper = absurd (not_calm old.sink.faults new.sink.faults causes sink)
-complete status.Keep old new causes used source sink keeper = absurd (not_calm old.keeper.faults new.keeper.faults causes keeper)
+complete status.Read old new causes used source sink keeper = absurd (not_calm old.source.faults new.source.faults causes.source source)
+complete status.Write old new causes used source sink keeper = absurd (not_calm old.sink.faults new.sink.faults causes.sink sink)
+complete status.Keep old new causes used source sink keeper = absurd (not_calm old.keeper.faults new.keeper.faults causes.keeper keeper)
 complete status.Memory old new causes used source sink keeper = inr (inr refl)
 complete status.Long old new causes used source sink keeper = inr (inl refl)
 

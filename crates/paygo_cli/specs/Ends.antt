@@ -26,10 +26,12 @@ WritesText _ text before sink = ⊥
 -- The fleet that the seed draws has these totals. Where its script plans no power cut, it can have no others.
 pub record IsFleet (next : List ℕ → ℕ → ℕ) (seed devices days : ℕ) (totals : Totals) : Type 0 where
   pub came : Came next (enrols_of seed devices) (steps_of seed devices days) totals
-  pub settled : HasNoPlan (steps_of seed devices days) → (other : Totals) → Came next (enrols_of seed devices) (steps_of seed devices days) other → other ≡ totals
+  pub settled : HasNoPlan (steps_of seed devices days) → (other : Totals)
+      → Came next (enrols_of seed devices) (steps_of seed devices days) other → other ≡ totals
 
 -- The line of such totals was written, at Write but for its end; and where there was no memory, nothing was.
 abbrev pub WritesFleet : (List ℕ → ℕ → ℕ) → ℕ → ℕ → ℕ → Status → List ℕ → SinkView → Type 0
 WritesFleet next seed devices days status.Memory before sink = sink.written ≡ Some before
 WritesFleet next seed devices days result before sink =
-    (totals : Totals) × IsFleet next seed devices days totals × (result ≢ status.Keep) × WritesText result (text_of_fleet devices days totals) before sink
+    (totals : Totals) × IsFleet next seed devices days totals × (result ≢ status.Keep)
+    × WritesText result (text_of_fleet devices days totals) before sink

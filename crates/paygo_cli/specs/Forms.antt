@@ -27,7 +27,8 @@ work_with_files word tables flash =
 
 -- The number that a word of 1 to 20 decimal digits says, where it lies between these two.
 abbrev pub number_between : ℕ → ℕ → List ℕ → Option ℕ
-number_between least most word = option_and_then (λ n. if nat_le least n && nat_le n most then Some n else None) (decimal_in 20 word)
+number_between least most word =
+    option_and_then (λ n. if nat_le least n && nat_le n most then Some n else None) (decimal_in 20 word)
 
 -- A fleet of these numbers: any seed of 64 bits, 1 to 200 devices and 1 to 400 days.
 abbrev pub fleet_of : Option ℕ → Option ℕ → Option ℕ → Option Work
@@ -60,7 +61,8 @@ WorkIsInRange _ = Unit {0}
 -- What the program writes to standard error for a status, without the end of the line.
 abbrev pub message_of : Status → Option (List ℕ)
 message_of status.Ok = None
-message_of status.Usage = Some (codes "usage: paygo serve DB | device FLASH | bench DB FLASH | audit DB | fleet SEED DEVICES DAYS")
+message_of status.Usage =
+    Some (codes "usage: paygo serve DB | device FLASH | bench DB FLASH | audit DB | fleet SEED DEVICES DAYS")
 message_of status.Read = Some (codes "paygo: read fault")
 message_of status.Write = Some (codes "paygo: write fault")
 message_of status.Keep = Some (codes "paygo: keeper fault")

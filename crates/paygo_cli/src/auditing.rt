@@ -2,7 +2,7 @@
 ghost use Rattle.std.specs.Prelude.{◌≡◌, ◌≢◌, ◌≤◌, ◌++◌, ℕ, List, codes, length, Some};
 ghost use Rattle.std.specs.List.{flat_map};
 ghost use Rattle.paygo_spec.specs.Flash.{FlashView};
-ghost use Rattle.paygo_spec.specs.Faults.{HasCause};
+ghost use Rattle.paygo_spec.specs.Faults.{Counted};
 ghost use Rattle.paygo_spec.specs.Streams.{SourceView};
 ghost use Rattle.paygo_spec.specs.Text.{with_number};
 ghost use Rattle.ledger_spec.specs.Tables.{Tables};
@@ -37,7 +37,8 @@ fn wrong_text(id: &Name) -> Line
 
 // `audited`, and the numbers of rows, orders and wrong orders.
 fn numbers_text(audit: &Audit) -> Line
-    ensures text { result ≡ with_number (with_number (with_number (codes "audited") audit.now.rows) audit.now.orders) (length audit.now.wrong.items) }
+    ensures text { result ≡ with_number (with_number (with_number (codes "audited") audit.now.rows) audit.now.orders)
+        (length audit.now.wrong.items) }
     ensures size { length result ≤ 511 }
 {
     let mut line = Line::new();
@@ -51,7 +52,7 @@ fn numbers_text(audit: &Audit) -> Line
 // Writes a line for each wrong order.
 fn write_wrong<K: Sink>(sink: &mut K, wrong: &[Name]) -> Result<(), WriteFault>
     ensures wrote { Wrote (flat_map wrong_line wrong.now) result (K.view sink.old) (K.view sink.new) }
-    ensures cause { HasCause (K.view sink.old).faults (K.view sink.new).faults result }
+    ensures cause { Counted result (K.view sink.old).faults (K.view sink.new).faults }
 {
     for id in wrong {
         match write_line(sink, wrong_text(id)) {
@@ -65,7 +66,7 @@ fn write_wrong<K: Sink>(sink: &mut K, wrong: &[Name]) -> Result<(), WriteFault>
 // Writes what an audit found.
 fn write_findings<K: Sink>(sink: &mut K, audit: &Audit) -> Result<(), WriteFault>
     ensures wrote { Wrote (text_of_findings (findings_of audit.now)) result (K.view sink.old) (K.view sink.new) }
-    ensures cause { HasCause (K.view sink.old).faults (K.view sink.new).faults result }
+    ensures cause { Counted result (K.view sink.old).faults (K.view sink.new).faults }
 {
     match write_wrong(sink, &audit.wrong) {
         Ok(()) => write_line(sink, numbers_text(audit)),
@@ -81,9 +82,9 @@ pub(crate) fn run_audit<M: Mixer, K: Sink, D: Keeper>(
 ) -> Status
     ensures ends { (result ≢ Status.Usage) × (result ≢ Status.Read) × (result ≢ Status.Long) }
     ensures tables { (D.view keeper.new).tables ≡ (D.view keeper.old).tables }
-    ensures later { ((K.view sink.old).faults ≤ (K.view sink.new).faults) × ((D.view keeper.old).faults ≤ (D.view keeper.new).faults) }
-    ensures causes { (source source' : SourceView) (flash flash' : FlashView) →
-        Causes result (outside source (K.view sink.old) (D.view keeper.old) flash) (outside source' (K.view sink.new) (D.view keeper.new) flash') }
+    ensures causes { (source : SourceView) (flash : FlashView) → Causes (Some result)
+        (outside source (K.view sink.old) (D.view keeper.old) flash)
+        (outside source (K.view sink.new) (D.view keeper.new) flash) }
     ensures written { (tables : Tables) (before : List ℕ) → (D.view keeper.old).tables ≡ Some tables →
         (K.view sink.old).written ≡ Some before →
         WritesText result (text_of_findings (audited M.next tables)) before (K.view sink.new) }

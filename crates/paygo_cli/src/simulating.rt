@@ -1,7 +1,6 @@
 // A fleet, drawn from a number and run, and the line of its totals.
 ghost use Rattle.std.specs.Prelude.{◌≡◌, ◌≢◌, ◌≤◌, ◌++◌, ℕ, List, codes, length, IfOk, Some};
 ghost use Rattle.paygo_spec.specs.Flash.{FlashView};
-ghost use Rattle.paygo_spec.specs.Faults.{HasCause};
 ghost use Rattle.paygo_spec.specs.Streams.{SourceView};
 ghost use Rattle.run_spec.specs.declared.Status.{Status};
 ghost use Rattle.fleet_spec.specs.Text.{with_size, with_entries, with_totals};
@@ -76,9 +75,8 @@ pub(crate) fn run_simulation<M: Mixer, K: Sink>(
     requires devices { (1 ≤ devices) × (devices ≤ 200) }
     requires days { (1 ≤ days) × (days ≤ 400) }
     ensures ends { (result ≢ Status.Usage) × (result ≢ Status.Read) × (result ≢ Status.Keep) × (result ≢ Status.Long) }
-    ensures later { (K.view sink.old).faults ≤ (K.view sink.new).faults }
-    ensures causes { (source source' : SourceView) (keeper keeper' : KeeperView) (flash flash' : FlashView) →
-        Causes result (outside source (K.view sink.old) keeper flash) (outside source' (K.view sink.new) keeper' flash') }
+    ensures causes { (source : SourceView) (keeper : KeeperView) (flash : FlashView) → Causes (Some result)
+        (outside source (K.view sink.old) keeper flash) (outside source (K.view sink.new) keeper flash) }
     ensures written { (before : List ℕ) → (K.view sink.old).written ≡ Some before →
         WritesFleet M.next seed devices days result before (K.view sink.new) }
 {

@@ -4,7 +4,7 @@ ghost use Rattle.ledger_spec.specs.Tables.{Tables};
 ghost use Rattle.run_spec.specs.declared.Mode.{Mode as Taken};
 ghost use Rattle.loan_ledger.specs.Audit.{audited};
 ghost use Rattle.loan_ledger.specs.AuditText.{text_of_findings};
-ghost use Rattle.line_loop.specs.Runs.{outside, NeverFalls, Causes, IsCalm, IsLong, Reads, RunsTold, RunsUnseen};
+ghost use Rattle.line_loop.specs.Runs.{outside, Causes, IsCalm, IsLong, Reads, RunsTold, RunsUnseen};
 ghost use Rattle.paygo_cli.specs.Forms.{work_of};
 ghost use Rattle.paygo_cli.specs.Ends.{WritesText, WritesFleet};
 
@@ -27,21 +27,20 @@ use token_chain::Mixer;
 /// - `Usage` exactly where the words are no form that the program knows. Nothing is read or written then.
 /// - `Ok` where lines are taken only where the source has told its end; every line was answered. Of an audit and a fleet the
 ///   whole text was written.
-/// - `Read` only where the source's count of faults rose, or stands at 2^64 - 1, and only where lines are taken. Every whole line
-///   was answered.
-/// - `Write` only where the sink's count of faults rose, or stands at 2^64 - 1. The steps of the lines were answered up to
-///   one whose answer was cut, and no later one was taken; each earlier answer was written whole. The text of an audit or a fleet
-///   was cut.
-/// - `Keep` only where the keeper's count of faults rose, or stands at 2^64 - 1, and never for `device` and `fleet`. Every line
-///   before one of the ledger was answered; the tables are as before that line, or have the whole change of its command. Of an
-///   audit nothing was written.
+/// - `Read` where the source failed, and only where lines are taken. Every whole line was answered.
+/// - `Write` where the sink failed. The steps of the lines were answered up to one whose answer was cut, and no later one was
+///   taken; each earlier answer was written whole. The text of an audit or a fleet was cut.
+/// - `Keep` where the keeper failed, and never for `device` and `fleet`. Every line before one of the ledger was answered; the
+///   tables are as before that line, or have the whole change of its command. Of an audit nothing was written.
 /// - `Memory` where there was none for a line of the ledger, for the audit or for the fleet; never for `device`. Every line before
 ///   it was answered, and the tables are as before it. Of an audit and a fleet nothing was written.
 /// - `Long` where lines are taken, exactly where 2^40 bytes were taken, the source hasn't told its end, and every whole line was
 ///   answered.
 ///
-/// Where no count of faults rises, the status is `Ok`, `Long` or, but for `device`, `Memory`, and no answer is `down`. Each
-/// `down` has a rise of the flash's count of its own.
+/// No fault is passed over: each one of source, sink and keeper is counted, once, and ends the run, and none has one where the
+/// run ends otherwise (`causes`). Where none of their counts rises, the status is `Ok`, `Long` or, but for `device`, `Memory`. Of
+/// the flash no more calls fail than were planned, where it tells its plan; each `down` is one fault of it, and nothing else is
+/// (`downs_are`). A count stands still at 2^64 - 1.
 ///
 /// Where source, sink, keeper and flash tell what they hold, the answers are those of the machine of shop and device, and from
 /// sound tables the shop's and the customer's promises are kept (`run`). Over a flash that tells no words, as a file tells
@@ -58,30 +57,47 @@ pub fn run<M: Mixer, S: Source, K: Sink, D: Keeper, F: Flash>(
     flash: &mut F,
 ) -> Status
     ensures usage { (result ≡ Status.Usage) ↔ (work_of (map (λ word. word.now) words.now) ≡ None) }
-    ensures unused { result ≡ Status.Usage → (source.new ≡ source.old) × (sink.new ≡ sink.old) × (keeper.new ≡ keeper.old) × (flash.new ≡ flash.old) }
-    ensures device { work_of (map (λ word. word.now) words.now) ≡ Some (Work.Lines Taken.Device) → (keeper.new ≡ keeper.old) × (result ≢ Status.Keep) × (result ≢ Status.Memory) }
+    ensures unused { result ≡ Status.Usage →
+        (source.new ≡ source.old) × (sink.new ≡ sink.old) × (keeper.new ≡ keeper.old) × (flash.new ≡ flash.old) }
+    ensures device { work_of (map (λ word. word.now) words.now) ≡ Some (Work.Lines Taken.Device) →
+        (keeper.new ≡ keeper.old) × (result ≢ Status.Keep) × (result ≢ Status.Memory) }
     ensures serve { work_of (map (λ word. word.now) words.now) ≡ Some (Work.Lines Taken.Serve) → flash.new ≡ flash.old }
     ensures audit { work_of (map (λ word. word.now) words.now) ≡ Some Work.Audit →
-        (source.new ≡ source.old) × (flash.new ≡ flash.old) × ((D.view keeper.new).tables ≡ (D.view keeper.old).tables) × (result ≢ Status.Read) × (result ≢ Status.Long) }
-    ensures fleet { (seed devices days : ℕ) → work_of (map (λ word. word.now) words.now) ≡ Some (Work.Fleet seed devices days) →
-        (source.new ≡ source.old) × (keeper.new ≡ keeper.old) × (flash.new ≡ flash.old) × (result ≢ Status.Read) × (result ≢ Status.Keep) × (result ≢ Status.Long) }
-    ensures later { NeverFalls (outside (S.view source.old) (K.view sink.old) (D.view keeper.old) (F.view flash.old)) (outside (S.view source.new) (K.view sink.new) (D.view keeper.new) (F.view flash.new)) }
-    ensures causes { Causes result (outside (S.view source.old) (K.view sink.old) (D.view keeper.old) (F.view flash.old)) (outside (S.view source.new) (K.view sink.new) (D.view keeper.new) (F.view flash.new)) }
-    ensures ended { (mode : Taken) → work_of (map (λ word. word.now) words.now) ≡ Some (Work.Lines mode) → result ≡ Status.Ok → (S.view source.new).ended ≡ true }
-    ensures long { (mode : Taken) → work_of (map (λ word. word.now) words.now) ≡ Some (Work.Lines mode) → IsLong result (S.view source.old) (S.view source.new) }
+        (source.new ≡ source.old) × (flash.new ≡ flash.old) ×
+        ((D.view keeper.new).tables ≡ (D.view keeper.old).tables) × (result ≢ Status.Read) × (result ≢ Status.Long) }
+    ensures fleet { (seed devices days : ℕ) →
+        work_of (map (λ word. word.now) words.now) ≡ Some (Work.Fleet seed devices days) →
+        (source.new ≡ source.old) × (keeper.new ≡ keeper.old) × (flash.new ≡ flash.old) × (result ≢ Status.Read) ×
+        (result ≢ Status.Keep) × (result ≢ Status.Long) }
+    ensures causes { Causes (Some result)
+        (outside (S.view source.old) (K.view sink.old) (D.view keeper.old) (F.view flash.old))
+        (outside (S.view source.new) (K.view sink.new) (D.view keeper.new) (F.view flash.new)) }
+    ensures ended { (mode : Taken) → work_of (map (λ word. word.now) words.now) ≡ Some (Work.Lines mode) →
+        result ≡ Status.Ok → (S.view source.new).ended ≡ true }
+    ensures long { (mode : Taken) → work_of (map (λ word. word.now) words.now) ≡ Some (Work.Lines mode) →
+        IsLong result (S.view source.old) (S.view source.new) }
     ensures read { (mode : Taken) → work_of (map (λ word. word.now) words.now) ≡ Some (Work.Lines mode) →
         (bytes : List ℕ) → (S.view source.old).left ≡ Some bytes → Reads result bytes (S.view source.new) }
-    ensures complete { result ≢ Status.Usage → IsCalm (S.view source.old).faults (S.view source.new).faults → IsCalm (K.view sink.old).faults (K.view sink.new).faults → IsCalm (D.view keeper.old).faults (D.view keeper.new).faults →
+    ensures complete { result ≢ Status.Usage → IsCalm (S.view source.old).faults (S.view source.new).faults →
+        IsCalm (K.view sink.old).faults (K.view sink.new).faults →
+        IsCalm (D.view keeper.old).faults (D.view keeper.new).faults →
         (result ≡ Status.Ok) ⊎ ((result ≡ Status.Long) ⊎ (result ≡ Status.Memory)) }
     ensures run { (mode : Taken) → work_of (map (λ word. word.now) words.now) ≡ Some (Work.Lines mode) →
-        RunsTold M.next mode result (outside (S.view source.old) (K.view sink.old) (D.view keeper.old) (F.view flash.old)) (outside (S.view source.new) (K.view sink.new) (D.view keeper.new) (F.view flash.new)) }
+        RunsTold M.next mode result
+        (outside (S.view source.old) (K.view sink.old) (D.view keeper.old) (F.view flash.old))
+        (outside (S.view source.new) (K.view sink.new) (D.view keeper.new) (F.view flash.new)) }
     ensures unseen { (mode : Taken) → work_of (map (λ word. word.now) words.now) ≡ Some (Work.Lines mode) →
-        RunsUnseen M.next mode result (outside (S.view source.old) (K.view sink.old) (D.view keeper.old) (F.view flash.old)) (outside (S.view source.new) (K.view sink.new) (D.view keeper.new) (F.view flash.new)) }
+        RunsUnseen M.next mode result
+        (outside (S.view source.old) (K.view sink.old) (D.view keeper.old) (F.view flash.old))
+        (outside (S.view source.new) (K.view sink.new) (D.view keeper.new) (F.view flash.new)) }
     ensures audited { work_of (map (λ word. word.now) words.now) ≡ Some Work.Audit →
-        (tables : Tables) (before : List ℕ) → (D.view keeper.old).tables ≡ Some tables → (K.view sink.old).written ≡ Some before →
+        (tables : Tables) (before : List ℕ) → (D.view keeper.old).tables ≡ Some tables →
+        (K.view sink.old).written ≡ Some before →
         WritesText result (text_of_findings (audited M.next tables)) before (K.view sink.new) }
-    ensures simulated { (seed devices days : ℕ) → work_of (map (λ word. word.now) words.now) ≡ Some (Work.Fleet seed devices days) →
-        (before : List ℕ) → (K.view sink.old).written ≡ Some before → WritesFleet M.next seed devices days result before (K.view sink.new) }
+    ensures simulated { (seed devices days : ℕ) →
+        work_of (map (λ word. word.now) words.now) ≡ Some (Work.Fleet seed devices days) →
+        (before : List ℕ) → (K.view sink.old).written ≡ Some before →
+        WritesFleet M.next seed devices days result before (K.view sink.new) }
 {
     match work_in(words) {
         Some(Work::Lines(mode)) => {

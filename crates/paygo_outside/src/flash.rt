@@ -10,16 +10,16 @@ pub struct FlashFault;
 /// has all bits 1. A word is programmed once, and is erased with its whole bank.
 ///
 /// What is seen of a flash is its words, where it tells them; whether it is up or down; its due, where it tells one, which
-/// is the number of further calls that succeed, or that none is planned to fail; and its count of faults, which never
-/// falls.
+/// is the number of further calls that succeed, or that none is planned to fail; and its count of faults, which stands
+/// still at 2^64 - 1.
 ///
 /// A power cut is a call that fails. After it the flash is down, and each call but `power_up` fails and changes nothing,
 /// the count and the due neither, until `power_up` answers Ok. So a caller that must show a cause for its failure powers
 /// the flash up first.
 ///
-/// A live call is `power_up`, or any call on a flash that is up. It fails only where the count of faults rose in it, or
-/// stands at 2^64 - 1. Where a due is told, it fails exactly where the due is 0, and none is due then; and each live call
-/// that answers Ok takes one off a due that is a number.
+/// A live call is `power_up`, or any call on a flash that is up. A live call that fails counts one fault, and any other
+/// call counts none. Where a due is told, a live call fails exactly where the due is 0, and none is due then; and each
+/// live call that answers Ok takes one off a due that is a number.
 pub trait Flash {
     /// What is seen of the flash.
     ghost view: { Self → FlashView };
@@ -28,7 +28,7 @@ pub trait Flash {
     ///
     /// # Errors
     ///
-    /// `FlashFault` only where the count of faults rose in this call, or stands at 2^64 - 1. The flash is down.
+    /// `FlashFault`, and the fault is counted, once. The flash is down.
     fn power_up(&mut self) -> Result<(), FlashFault>
         ensures ok { OnOk result (Passes same_words (view self.old) (view self.new)) }
         ensures fault { OnErr result (Fails Stay (view self.old) (view self.new)) };
@@ -37,8 +37,8 @@ pub trait Flash {
     ///
     /// # Errors
     ///
-    /// `FlashFault` on a flash that was down, and there nothing changed; else only where the count of faults rose in this
-    /// call, or stands at 2^64 - 1, and the flash is down now.
+    /// `FlashFault` on a flash that was down, and there nothing changed; else the fault is counted, once, and the flash is
+    /// down now.
     fn read(&mut self, at: u16) -> Result<u64, FlashFault>
         requires { at < 1024 }
         ensures word { IfOk result (λ word. IfSome (view self.old).words
@@ -53,9 +53,8 @@ pub trait Flash {
     ///
     /// # Errors
     ///
-    /// `FlashFault` on a flash that was down, and there nothing changed; else only where the count of faults rose in this
-    /// call, or stands at 2^64 - 1. The flash is down then, some word with at least the 1 bits of `word` stands at the
-    /// place, and no other word changed.
+    /// `FlashFault` on a flash that was down, and there nothing changed; else the fault is counted, once. The flash is down
+    /// then, some word with at least the 1 bits of `word` stands at the place, and no other word changed.
     fn program(&mut self, at: u16, word: u64) -> Result<(), FlashFault>
         requires within { at < 1024 }
         requires erased { IfSome (view self.old).words
@@ -71,9 +70,8 @@ pub trait Flash {
     ///
     /// # Errors
     ///
-    /// `FlashFault` on a flash that was down, and there nothing changed; else only where the count of faults rose in this
-    /// call, or stands at 2^64 - 1. The flash is down then, each word of the bank has at least the 1 bits that it had, and
-    /// no other word changed.
+    /// `FlashFault` on a flash that was down, and there nothing changed; else the fault is counted, once. The flash is down
+    /// then, each word of the bank has at least the 1 bits that it had, and no other word changed.
     fn erase(&mut self, bank: u8) -> Result<(), FlashFault>
         requires { bank < 2 }
         ensures ok { OnOk result (Passes (erased_bank bank) (view self.old) (view self.new)) }

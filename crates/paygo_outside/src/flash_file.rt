@@ -1,6 +1,6 @@
 // A flash in a file. What the system does is trusted: no clause can say which bytes a file holds.
-ghost use Rattle.std.specs.Prelude.{◌≡◌, ◌≤◌, ◌++◌, true, false, None, IfOk, OnOk, OnErr, IsErr, codes};
-ghost use Rattle.paygo_spec.specs.Faults.{Rose};
+ghost use Rattle.std.specs.Prelude.{◌≡◌, ◌++◌, true, false, None, IfOk, OnOk, OnErr, IsErr, codes};
+ghost use Rattle.paygo_spec.specs.Faults.{Counted};
 ghost use Rattle.paygo_spec.specs.Flash.{FlashView, AreWords, Passes, Fails, Becomes, Stay, TornProgram, TornErase, erased_word, erased_bank, same_words};
 
 use crate::bytes::{bank_start, go_to, word_at, word_start, write_erased, write_whole, write_word};
@@ -169,14 +169,13 @@ impl<'a, R: Files> FlashFile<'a, R> {
         Ok(())
     }
 
-    // What the calls of the file came to. After an error the flash is down, with a fault counted.
+    // What the calls of the file came to. After an error the flash is down, with one fault counted.
     fn settle<T>(&mut self, outcome: io::Result<T>) -> Result<T, FlashFault>
         ensures given { IfOk outcome (λ value. result ≡ Ok value) }
-        ensures stays { OnOk outcome ((self.new.up ≡ self.old.up) × (self.new.faults ≡ self.old.faults)) }
+        ensures stays { OnOk outcome (self.new.up ≡ self.old.up) }
         ensures failed { OnErr outcome (IsErr result) }
         ensures down { OnErr outcome (self.new.up ≡ false) }
-        ensures rose { OnErr outcome (Rose self.old.faults self.new.faults) }
-        ensures later { self.old.faults ≤ self.new.faults }
+        ensures counted { Counted outcome self.old.faults self.new.faults }
     {
         if outcome.is_err() {
             self.up = false;

@@ -1,7 +1,7 @@
 // A flash in memory, whose power cut is planned.
 ghost use Rattle.std.specs.Prelude.{◌≡◌, ◌+◌, ◌-◌, ◌*◌, ◌^◌, ◌<◌, ◌≤◌, true, false, Some, None, length, slice_index, slice_set, bit_or, IfOk, OnOk, OnErr, IfSome, IfNone, OnSome, IsSomeAnd};
 ghost use Rattle.std.specs.Option.{option_map};
-ghost use Rattle.paygo_spec.specs.Flash.{FlashView, AreWords, AreErased, Passes, Fails, Becomes, Stay, TornProgram, TornErase, KeptBank, DuePasses, DueFails, erased_word, erased_bank, same_words};
+ghost use Rattle.paygo_spec.specs.Flash.{FlashView, AreWords, AreErased, Passes, Fails, Becomes, Stay, TornProgram, TornErase, KeptBank, DueAfter, DueWithin, erased_word, erased_bank, same_words};
 ghost use Rattle.paygo_outside.specs.Cuts.{due_of, nearer};
 
 use crate::counts::count_fault;
@@ -78,9 +78,9 @@ impl MemFlash {
 
 // Takes a live call off the plan. Where it answers bits to keep, the call is cut.
 fn spend(plan: &mut Option<Cut>) -> Option<u64>
-    ensures passes { IfNone result (DuePasses (due_of plan.old) (due_of plan.new)) }
+    ensures passes { IfNone result (DueAfter 1 (due_of plan.old) (due_of plan.new)) }
     ensures nearer { IfNone result (plan.new ≡ option_map nearer plan.old) }
-    ensures fails { OnSome result (DueFails (due_of plan.old) (due_of plan.new)) }
+    ensures fails { OnSome result (DueWithin 1 (due_of plan.old) (due_of plan.new)) }
     ensures kept { IfSome result (λ keep. IfSome plan.old (λ cut. keep ≡ cut.keep)) }
     ensures bits { IfSome result (λ keep. keep < 2 ^ 64) }
 {
@@ -121,8 +121,6 @@ impl Flash for MemFlash {
             (⟦<MemFlash as Flash>⟧.view self.new)) }
         ensures fault { OnErr result (Fails Stay (⟦<MemFlash as Flash>⟧.view self.old)
             (⟦<MemFlash as Flash>⟧.view self.new)) }
-        ensures stays { OnOk result ((⟦<MemFlash as Flash>⟧.view self.new).faults ≡
-            (⟦<MemFlash as Flash>⟧.view self.old).faults) }
         ensures plan { OnOk result (planned_cut self.new ≡
             option_map nearer (planned_cut self.old)) }
     {
@@ -147,8 +145,6 @@ impl Flash for MemFlash {
             (⟦<MemFlash as Flash>⟧.view self.new)) }
         ensures down { (⟦<MemFlash as Flash>⟧.view self.old).up ≡ false →
             ⟦<MemFlash as Flash>⟧.view self.new ≡ ⟦<MemFlash as Flash>⟧.view self.old }
-        ensures stays { OnOk result ((⟦<MemFlash as Flash>⟧.view self.new).faults ≡
-            (⟦<MemFlash as Flash>⟧.view self.old).faults) }
         ensures plan { OnOk result (planned_cut self.new ≡
             option_map nearer (planned_cut self.old)) }
     {
@@ -175,8 +171,6 @@ impl Flash for MemFlash {
             (⟦<MemFlash as Flash>⟧.view self.new)) }
         ensures down { (⟦<MemFlash as Flash>⟧.view self.old).up ≡ false →
             ⟦<MemFlash as Flash>⟧.view self.new ≡ ⟦<MemFlash as Flash>⟧.view self.old }
-        ensures stays { OnOk result ((⟦<MemFlash as Flash>⟧.view self.new).faults ≡
-            (⟦<MemFlash as Flash>⟧.view self.old).faults) }
         ensures plan { OnOk result (planned_cut self.new ≡
             option_map nearer (planned_cut self.old)) }
         ensures kept { OnErr result ((⟦<MemFlash as Flash>⟧.view self.old).up ≡ true →
@@ -208,8 +202,6 @@ impl Flash for MemFlash {
             (⟦<MemFlash as Flash>⟧.view self.new)) }
         ensures down { (⟦<MemFlash as Flash>⟧.view self.old).up ≡ false →
             ⟦<MemFlash as Flash>⟧.view self.new ≡ ⟦<MemFlash as Flash>⟧.view self.old }
-        ensures stays { OnOk result ((⟦<MemFlash as Flash>⟧.view self.new).faults ≡
-            (⟦<MemFlash as Flash>⟧.view self.old).faults) }
         ensures plan { OnOk result (planned_cut self.new ≡
             option_map nearer (planned_cut self.old)) }
         ensures kept { OnErr result ((⟦<MemFlash as Flash>⟧.view self.old).up ≡ true →

@@ -1,6 +1,7 @@
 // A sink into memory, whose faults are planned.
-ghost use Rattle.std.specs.Prelude.{◌≡◌, ◌⊎◌, ◌+◌, ◌-◌, ◌≤◌, ◌<◌, ◌↔◌, min, length, take, [], Some, None, IfOk, OnOk, OnErr, IsErr};
-ghost use Rattle.paygo_spec.specs.Streams.{SinkView, Takes, TakesNothing, raised};
+ghost use Rattle.std.specs.Prelude.{◌≡◌, ◌⊎◌, ◌+◌, ◌-◌, ◌≤◌, ◌<◌, ◌↔◌, min, length, take, [], Some, None, IfOk, OnErr, IsErr};
+ghost use Rattle.paygo_spec.specs.Faults.{raised};
+ghost use Rattle.paygo_spec.specs.Streams.{SinkView, Takes, TakesNothing};
 
 use crate::counts::{count_fault, count_taken};
 use crate::{Memory, Sink, WriteFault};
@@ -76,12 +77,10 @@ impl Sink for MemSink {
         ensures fault { OnErr result (TakesNothing (⟦<MemSink as Sink>⟧.view self.old)
             (⟦<MemSink as Sink>⟧.view self.new)) }
 
-        // It fails exactly where that was planned or no room is left, and counts no fault else.
+        // It fails exactly where that was planned or no room is left.
         ensures fails { IsErr result ↔
             (((write_plan self.old).fails ≡ Some (write_plan self.new).calls)
             ⊎ (((write_plan self.old).room ≡ 0) × (0 < length bytes.now))) }
-        ensures stays { OnOk result ((⟦<MemSink as Sink>⟧.view self.new).faults ≡
-            (⟦<MemSink as Sink>⟧.view self.old).faults) }
 
         // It takes all, or as much as the room left holds.
         ensures taken { IfOk result (λ n. n ≡ min (length bytes.now) (write_plan self.old).room) }

@@ -1,7 +1,8 @@
 // A source over bytes in memory, whose faults are planned.
-ghost use Rattle.std.specs.Prelude.{◌≡◌, ◌+◌, ◌-◌, ◌^◌, ◌≤◌, ◌↔◌, min, length, drop, false, Some, None, Ok, IfOk, OnOk, OnErr, IsErr, IfSome};
+ghost use Rattle.std.specs.Prelude.{◌≡◌, ◌+◌, ◌-◌, ◌^◌, ◌≤◌, ◌↔◌, min, length, drop, false, Some, None, Ok, IfOk, OnErr, IsErr, IfSome};
 ghost use Rattle.std.specs.declared.option.Option.{Option};
-ghost use Rattle.paygo_spec.specs.Streams.{SourceView, Gives, GivesNothing, raised};
+ghost use Rattle.paygo_spec.specs.Faults.{raised};
+ghost use Rattle.paygo_spec.specs.Streams.{SourceView, Gives, GivesNothing};
 
 use crate::counts::{count_fault, count_taken};
 use crate::{Memory, ReadFault, Source};
@@ -84,11 +85,9 @@ impl Source for MemSource {
         ensures fault { OnErr result (GivesNothing (⟦<MemSource as Source>⟧.view self.old)
             (⟦<MemSource as Source>⟧.view self.new)) }
 
-        // It fails exactly where that was planned, and counts no fault else.
+        // It fails exactly where that was planned.
         ensures fails { IsErr result ↔ ((read_plan self.old).fails ≡
             Some (read_plan self.new).calls) }
-        ensures stays { OnOk result ((⟦<MemSource as Source>⟧.view self.new).faults ≡
-            (⟦<MemSource as Source>⟧.view self.old).faults) }
         ensures plan { read_plan self.new ≡ record (read_plan self.old)
             { calls = raised (read_plan self.old).calls 1 } }
 

@@ -8,7 +8,8 @@ pub struct WriteFault;
 
 /// What bytes are written to, as standard output or a buffer in memory.
 ///
-/// What is seen of a sink is the bytes written to it, where it tells them, and its count of faults, which never falls.
+/// What is seen of a sink is the bytes written to it, where it tells them, and its count of faults, which stands still at
+/// 2^64 - 1. A call that fails counts one fault, and a call that answers Ok counts none.
 pub trait Sink {
     /// What is seen of the sink.
     ghost view: { Self → SinkView };
@@ -20,8 +21,8 @@ pub trait Sink {
     ///
     /// # Errors
     ///
-    /// `WriteFault` only where the count of faults rose in this call, or stands at 2^64 - 1. Nothing was appended. A sink
-    /// that took nothing of a piece that isn't empty answers it.
+    /// `WriteFault`, and the fault is counted, once. Nothing was appended. A sink that took nothing of a piece that isn't
+    /// empty answers it.
     fn write(&mut self, bytes: &[u8]) -> Result<usize, WriteFault>
         ensures ok { IfOk result (λ n. Takes n bytes.now (view self.old) (view self.new)) }
         ensures fault { OnErr result (TakesNothing (view self.old) (view self.new)) };

@@ -9,8 +9,9 @@ pub struct ReadFault;
 /// What bytes are read from, as standard input or a buffer in memory.
 ///
 /// What is seen of a source is the bytes left in it, where it tells them; how many bytes were taken from it, a number
-/// that stands still at 2^64 - 1; whether it has told its end; and its count of faults, which never falls. A new source
-/// has taken nothing, and hasn't told its end.
+/// that stands still at 2^64 - 1; whether it has told its end; and its count of faults, which stands still at 2^64 - 1
+/// too. A call that fails counts one fault, and a call that answers Ok counts none. A new source has taken nothing, and
+/// hasn't told its end.
 pub trait Source {
     /// What is seen of the source.
     ghost view: { Self → SourceView };
@@ -24,8 +25,7 @@ pub trait Source {
     ///
     /// # Errors
     ///
-    /// `ReadFault` only where the count of faults rose in this call, or stands at 2^64 - 1. Nothing was taken, and the
-    /// end is as it was told.
+    /// `ReadFault`, and the fault is counted, once. Nothing was taken, and the end is as it was told.
     fn read(&mut self, buf: &mut [u8]) -> Result<usize, ReadFault>
         ensures ok { IfOk result (λ n. Gives n buf.new (view self.old) (view self.new)) }
         ensures fault { OnErr result (GivesNothing (view self.old) (view self.new)) };

@@ -25,7 +25,7 @@ stays_spent start (_ ∷ entries) n h = stays_spent start entries n h
 
 -- what is spent isn't valid
 spent_refused : (start : Summary) (entries : List Entry) (n v : ℕ) → spent start entries n ≡ true → n ≤ top start entries → Valid start entries n v → ⊥
-spent_refused start entries n v a b w = ⊎_elim (λ o. omega (arith, o.1)) (λ o. (let x = o.3 in cc)) w.2
+spent_refused start entries n v a b w = ⊎_elim (λ o. omega (arith, o.1)) (λ o. (let x = o.2 in cc)) w.3
 
 -- a count is accepted at most once, and never where the start has it as spent
 pub once : (unit : ℕ) (start : Summary) (entries : List Entry) (n : ℕ) → Lawful unit start entries → accepts n entries ≤ 1

@@ -1,31 +1,45 @@
 -- The clock of a lawful history keeps the rule on clocks.
-use Rattle.std.proofs.Common.{◌≡◌, ℕ, true, false, ◌*◌, ◌≤◌, if◌then◌else◌, List, [], ◌∷◌, arith, refl, nat_le, ◌==◌, ◌↔◌, ⊎_elim}
+use Rattle.std.proofs.Common.{◌≡◌, ℕ, true, false, ◌*◌, ◌≤◌, if◌then◌else◌, List, [], ◌∷◌, Option, Some, arith, refl, nat_le, ◌==◌, ◌&&◌, ◌↔◌, ⊎_elim}
 use Rattle.std.proofs.lemmas.Bool.{cond_both, leb-true, and_parts, and_from, cases_eq, cases_Bool}
 use Rattle.std.proofs.lemmas.Bool.Decides.{nat_tests}
 use Rattle.std.proofs.Math.Nat.{mul-le-mul}
 use Rattle.paygo_spec.specs.declared.Entry.{Entry}
 use Rattle.paygo_spec.specs.declared.Entry.TheVariants.{Accept, Bad, Elapsed, Raised}
+use Rattle.paygo_spec.specs.declared.TokenKind.{TokenKind}
+use Rattle.paygo_spec.specs.declared.TokenKind.TheVariants.{Add, Set, Free}
 use Rattle.paygo_spec.specs.History.{Summary, is_odd}
-use Rattle.paygo_spec.specs.Clock.{ClockView, most_left, clock_after, clock_of, longest_block, IsClock, is_clock}
+use Rattle.paygo_spec.specs.Clock.{ClockView, most_left, taken_by, clock_after, clock_of, longest_block, IsClock, is_clock}
 use Rattle.paygo_spec.specs.Lawful.{Lawful}
 
--- an accepted token keeps the rule where there was no block
-pub credit_keeps : (unit n v : ℕ) (t : ClockView) → unit ≤ 86400 → IsClock t → t.block ≡ 0 → IsClock (clock_after unit (Accept n v) t)
-credit_keeps unit n v t u k b =
-    cond_both (is_odd n) _ _ IsClock
-    (λ o. cond_both (nat_le v 995) _ _ IsClock
-    (λ a. let m : v * unit ≤ 995 * 86400 = mul-le-mul (leb-true v 995 a) u in
-    record { within = omega arith; few = omega arith; freed = λ z. cc; unblocked = λ z. b; bounded = omega arith })
-    (λ a. cond_both (v == 998) _ _ IsClock
-    (λ d. record { within = omega arith; few = omega arith; freed = λ z. refl; unblocked = λ z. b; bounded = omega arith })
-    (λ d. record { within = k.within; few = omega arith; freed = k.freed; unblocked = λ z. b; bounded = omega arith })))
-    (λ o. cond_both t.free _ _ IsClock
-    (λ f. record { within = k.within; few = omega arith; freed = k.freed; unblocked = λ z. b; bounded = omega arith })
-    (λ f. record { within = omega arith; few = omega arith; freed = λ z. cc; unblocked = λ z. b; bounded = omega arith }))
+-- an accepted token keeps the rule where there was no block, of whatever kind it is
+module _ (unit v : ℕ) (t : ClockView) (u : unit ≤ 86400) (k : IsClock t) (b : t.block ≡ 0) where
+  abbrev stays : IsClock (record t { fails = 0 })
+  stays = record { within = k.within; few = omega arith; freed = k.freed; unblocked = λ z. b; bounded = omega arith }
+
+  abbrev Keeps : Option TokenKind → Type 0
+  Keeps kind = IsClock (taken_by unit kind v t)
+
+  set_keeps : nat_le v 995 ≡ true → Keeps (Some Set)
+  set_keeps a =
+      let m : v * unit ≤ 995 * 86400 = mul-le-mul (leb-true v 995 a) u in
+      record { within = omega arith; few = omega arith; freed = λ z. cc; unblocked = λ z. b; bounded = omega arith }
+
+  add_keeps : Keeps (Some Add)
+  add_keeps = cond_both t.free _ _ IsClock (λ f. stays) (λ f. record { within = omega arith; few = omega arith; freed = λ z. cc; unblocked = λ z. b; bounded = omega arith })
+
+  free_keeps : Keeps (Some Free)
+  free_keeps = record { within = omega arith; few = omega arith; freed = λ z. refl; unblocked = λ z. b; bounded = omega arith }
+
+  pub credit_keeps : (n : ℕ) → IsClock (clock_after unit (Accept n v) t)
+  credit_keeps n =
+      cond_both (nat_le v 995) _ _ Keeps
+      (λ a. cond_both (is_odd n) _ _ Keeps (λ o. set_keeps a) (λ o. add_keeps))
+      (λ a. cond_both (is_odd n && v == 998) _ _ Keeps (λ d. free_keeps)
+      (λ d. cond_both (is_odd n && v == 999) _ _ Keeps (λ e. stays) (λ e. stays)))
 
 pub clock_keeps : (unit : ℕ) (start : Summary) (entries : List Entry) → unit ≤ 86400 → Lawful unit start entries → IsClock (clock_of unit start entries)
 clock_keeps unit start [] u h = h.clock
-clock_keeps unit start (Accept n v ∷ entries) u h = credit_keeps unit n v (clock_of unit start entries) u (clock_keeps unit start entries u h.0) h.1.0
+clock_keeps unit start (Accept n v ∷ entries) u h = credit_keeps unit v (clock_of unit start entries) u (clock_keeps unit start entries u h.0) h.1.0 n
 clock_keeps unit start (Bad ∷ entries) u h =
     let k : IsClock (clock_of unit start entries) = clock_keeps unit start entries u h.0 in
     record { within = k.within; few = omega arith; freed = k.freed; unblocked = λ z. absurd (omega arith); bounded = omega arith }

@@ -1,14 +1,14 @@
 -- The tests on entries, and the numbers of entries.
-use Rattle.std.proofs.Common.{◌≡◌, ℕ, Bool, true, false, ◌+◌, ◌*◌, ◌/◌, ◌%◌, ◌^◌, ◌<◌, ◌≤◌, ◌==◌, nat_lt, List, [], ◌∷◌, Option, Some, None, refl, arith, sym, ◌∙◌, ap, subst, ◌↔◌, ⊎_elim}
+use Rattle.std.proofs.Common.{◌≡◌, ℕ, Bool, true, false, ◌+◌, ◌*◌, ◌/◌, ◌%◌, ◌^◌, ◌<◌, ◌≤◌, ◌==◌, nat_lt, IsSome, List, [], ◌∷◌, Option, Some, None, refl, arith, sym, ◌∙◌, ap, subst, ◌↔◌, ⊎_elim}
 use Rattle.std.proofs.lemmas.Bool.{cases_Bool, and_parts}
 use Rattle.std.proofs.lemmas.Bool.Decides.{nat_tests}
 use Rattle.paygo_spec.specs.declared.Entry.{Entry}
 use Rattle.paygo_spec.specs.declared.Entry.TheVariants.{Accept, Bad, Elapsed, Raised}
-use Rattle.paygo_spec.specs.History.{Summary, first_limit, raised_limit, limit_of, IsLimit, reach, is_odd, Valid, is_valid}
+use Rattle.paygo_spec.specs.History.{Summary, first_limit, raised_limit, limit_of, IsLimit, reach, is_odd, kind_of, Valid, is_valid}
 use Rattle.paygo_spec.specs.Window.{alone, StandsFor}
 use Rattle.paygo_spec.specs.Lawful.{MayFollow, IsWritten, follows}
 use Rattle.paygo_spec.specs.Snapshot.{snapshot}
-use Rattle.paygo_spec.specs.EntryNumber.{number_of, entry_of, HasNumber, after_entry, next}
+use Rattle.paygo_spec.specs.EntryNumber.{number_of, entry_of, HasNumber, after_entry, after_number}
 use Rattle.paygo_spec.proofs.Windows.{same_valid}
 use Rattle.paygo_spec.proofs.Snapshots.{snapshot_more, snapshot_may}
 
@@ -35,15 +35,19 @@ read_back Bad h = refl
 read_back (Elapsed t) h = let a : (2147483648 + t) / 1073741824 ≡ 2 = omega arith in let b : (2147483648 + t) % 1073741824 ≡ t = omega arith in grind (arith, nat_tests)
 read_back Raised h = absurd h
 
+-- the value of a token of some kind is at most 999
+value_small : (n v : ℕ) → IsSome (kind_of n v) → v ≤ 999
+value_small n v h = ⊎_elim (λ (o : is_odd n ≡ true). grind (arith, nat_tests)) (λ (o : is_odd n ≡ false). grind (arith, nat_tests)) (cases_Bool (is_odd n))
+
 -- an entry that is written and may follow has a number
 pub may_has_number : (unit : ℕ) (start : Summary) (entries : List Entry) (e : Entry) → IsLimit (limit_of start entries) → IsWritten e → MayFollow unit start entries e → HasNumber e
-may_has_number unit start entries (Accept n v) g w h = let k : n ≤ reach start entries v = h.1.1 in (⊎_elim (λ (l : limit_of start entries ≡ first_limit). omega arith) (λ (l : limit_of start entries ≡ raised_limit). omega arith) g, ⊎_elim (λ o. ⊎_elim (λ (a : v ≤ 995). omega arith) (λ o. ⊎_elim (λ (a : v ≡ 998). omega arith) (λ (a : v ≡ 999). omega arith) o) o.2) (λ o. omega (arith, o.1)) h.1.2)
+may_has_number unit start entries (Accept n v) g w h = let k : n ≤ reach start entries v = h.1.1 in (⊎_elim (λ (l : limit_of start entries ≡ first_limit). omega arith) (λ (l : limit_of start entries ≡ raised_limit). omega arith) g, omega (arith, value_small n v h.1.2))
 may_has_number unit start entries Bad g w h = tt
 may_has_number unit start entries (Elapsed t) g w h = omega arith
 may_has_number unit start entries Raised g w h = absurd w
 
 -- an entry that may follow a history is read as the snapshot of the history with it
-pub next_is : (unit : ℕ) (start : Summary) (entries : List Entry) (e : Entry) → HasNumber e → IsWritten e → MayFollow unit start entries e → next unit (snapshot unit start entries) (number_of e) ≡ Some (snapshot unit start (e ∷ entries))
+pub next_is : (unit : ℕ) (start : Summary) (entries : List Entry) (e : Entry) → HasNumber e → IsWritten e → MayFollow unit start entries e → after_number unit (snapshot unit start entries) (number_of e) ≡ Some (snapshot unit start (e ∷ entries))
 next_is unit start entries e r k h =
     let f : follows (snapshot unit start entries) e ≡ true = (follows_is unit (snapshot unit start entries) e).1 ((snapshot_may unit start entries e).0 h, k) in
     ap (after_entry unit (snapshot unit start entries)) (read_back e r) ∙ (rw f (ap Some (sym (snapshot_more unit start entries e))))
@@ -103,7 +107,7 @@ taken_on unit start t (Some e) h =
     (λ (f : follows start e ≡ false). let q : None ≡ Some t = rw f at h in cc)
     (cases_Bool (follows start e))
 
-pub read_entry : (unit : ℕ) (start : Summary) (entries : List Entry) (x : ℕ) (t : Summary) → next unit (snapshot unit start entries) x ≡ Some t → (e : Entry) × (number_of e ≡ x) × (MayFollow unit start entries e × IsWritten e) × (t ≡ snapshot unit start (e ∷ entries))
+pub read_entry : (unit : ℕ) (start : Summary) (entries : List Entry) (x : ℕ) (t : Summary) → after_number unit (snapshot unit start entries) x ≡ Some t → (e : Entry) × (number_of e ≡ x) × (MayFollow unit start entries e × IsWritten e) × (t ≡ snapshot unit start (e ∷ entries))
 read_entry unit start entries x t h =
     let k = taken_on unit (snapshot unit start entries) t (entry_of x) h in
     let n = number_back x k.0 k.1 in

@@ -1,3 +1,4 @@
+pub mod Plans
 pub mod Counts
 pub mod Windows
 pub mod WindowTests

@@ -1,5 +1,5 @@
 -- A device whose history was found stays so, whatever happens to it.
-use Rattle.std.proofs.Common.{◌≡◌, ◌⊎◌, ℕ, ◌≤◌, Bool, true, false, ◌==◌, nat_lt, List, ◌∷◌, length, if◌then◌else◌, Option, Some, None, refl, sym, subst, arith, ⊎_elim}
+use Rattle.std.proofs.Common.{◌≡◌, ℕ, ◌≤◌, Bool, true, false, ◌==◌, nat_lt, List, ◌∷◌, length, if◌then◌else◌, Option, Some, None, refl, sym, subst, arith, ⊎_elim}
 use Rattle.std.proofs.lemmas.Bool.{cases_Bool, cond_both}
 use Rattle.std.proofs.lemmas.Bool.Decides.{nat_tests}
 use Rattle.paygo_spec.specs.declared.Config.{Config}
@@ -39,7 +39,7 @@ module _ (next : List ℕ → ℕ → ℕ) (history : History) (searched : Searc
   abbrev found_now : ℕ → Found
   found_now token = found (next history.config.key) history.config.start history.start history.entries token
 
-  good_found : (token : ℕ) (answer : Found) → found_now token ≡ answer → clock.block ≡ 0 → Good (effect_of_typed history (by_found (unit_for history) clock answer))
+  good_found : (token : ℕ) (answer : Found) → found_now token ≡ answer → clock.block ≡ 0 → Good (effect_of_typed history (by_found answer))
   good_found token (Valid count v) is none =
       let may = (found_token (next history.config.key) history.config.start history.start history.entries token count v is).1 in
       let valid = (valid_is history.start history.entries count v).0 may in
@@ -47,11 +47,11 @@ module _ (next : List ℕ → ℕ → ℕ) (history : History) (searched : Searc
   good_found token (Old count) is none = searched
   good_found token Invalid is none = ((searched.0, none), searched.1)
 
-  good_clock : (token : ℕ) (stands : Bool) → nat_lt 0 clock.block ≡ stands → Good (effect_of_typed history (by_clock (unit_for history) clock (found_now token)))
+  good_clock : (token : ℕ) (stands : Bool) → nat_lt 0 clock.block ≡ stands → Good (effect_of_typed history (by_clock clock (found_now token)))
   good_clock token true is = rw is searched
   good_clock token false is = let none : clock.block ≡ 0 = grind (arith, nat_tests) in rw is (good_found token (found_now token) refl none)
 
-  good_digits : (token : ℕ) (fault : Option ℕ) → Good (effect_of_typed history (by_digits (unit_for history) clock (found_now token) fault))
+  good_digits : (token : ℕ) (fault : Option ℕ) → Good (effect_of_typed history (by_digits clock (found_now token) fault))
   good_digits token (Some place) = searched
   good_digits token None = good_clock token (nat_lt 0 clock.block) refl
 

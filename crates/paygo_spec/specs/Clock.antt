@@ -1,8 +1,12 @@
 -- The clock of a device: time left, whether it is free, failures and block, as a fold over its history.
-use Rattle.std.specs.Prelude.{◌≡◌, ℕ, ◌+◌, ◌-◌, ◌*◌, ◌/◌, ◌%◌, ◌^◌, ◌≤◌, ◌⊎◌, min, Bool, true, false, ◌&&◌, ◌==◌, nat_le, nat_lt, List, [], ◌∷◌, if◌then◌else◌}
+use Rattle.std.specs.Prelude.{◌≡◌, ℕ, ◌+◌, ◌-◌, ◌*◌, ◌/◌, ◌%◌, ◌^◌, ◌≤◌, min, Bool, true, false, ◌&&◌, ◌==◌, nat_le, nat_lt, IsSome, List, [], ◌∷◌, if◌then◌else◌}
+use Rattle.std.specs.declared.option.Option.{Option}
+use Rattle.std.specs.declared.option.Option.TheVariants.{None, Some}
 use Rattle.paygo_spec.specs.declared.Entry.{Entry}
 use Rattle.paygo_spec.specs.declared.Entry.TheVariants.{Accept, Bad, Elapsed, Raised}
-use Rattle.paygo_spec.specs.History.{Summary, is_odd}
+use Rattle.paygo_spec.specs.declared.TokenKind.{TokenKind}
+use Rattle.paygo_spec.specs.declared.TokenKind.TheVariants.{Add, Set, Free, Sync}
+use Rattle.paygo_spec.specs.History.{Summary, kind_of}
 
 -- Seconds left, whether time doesn't count any more, failures in a row, and seconds for which entries are blocked.
 pub record ClockView : Type 0 where
@@ -31,30 +35,27 @@ divides_day n = nat_lt 0 n && (nat_lt n 256 && (86400 % n == 0))
 abbrev pub unit_of : ℕ → ℕ
 unit_of divider = 86400 / divider
 
--- The clock after an accepted token of an odd count: a set token gives its units, 998 frees the device, 999 leaves
--- the time as it is.
-abbrev pub set_by : ℕ → ℕ → ClockView → ClockView
-set_by unit v clock =
-    if nat_le v 995 then record clock { left = v * unit; free = false; fails = 0 }
-    else if v == 998 then record clock { left = 0; free = true; fails = 0 }
-    else record clock { fails = 0 }
-
--- The clock after an accepted token of an even count: its units are added, but not on a free device.
-abbrev pub added_by : ℕ → ℕ → ClockView → ClockView
-added_by unit v clock =
+-- The clock after an accepted token of this kind and value: a set token gives its units in place of the time left, an
+-- add token adds its units, but not on a free device, and one that frees the device ends its time. Else time stays.
+abbrev pub taken_by : ℕ → Option TokenKind → ℕ → ClockView → ClockView
+taken_by unit (Some Set) v clock = record clock { left = v * unit; free = false; fails = 0 }
+taken_by unit (Some Add) v clock =
     if clock.free then record clock { fails = 0 }
     else record clock { left = min (clock.left + v * unit) most_left; fails = 0 }
+taken_by unit (Some Free) v clock = record clock { left = 0; free = true; fails = 0 }
+taken_by unit (Some Sync) v clock = record clock { fails = 0 }
+taken_by unit None v clock = record clock { fails = 0 }
 
 -- The clock after a bad entry: one failure more, up to 10, and a block that doubles with each.
-abbrev pub blocked : ClockView → ClockView
-blocked clock =
+abbrev pub after_bad : ClockView → ClockView
+after_bad clock =
     let fails = min (clock.fails + 1) 10 in
     record clock { fails = fails; block = 60 * 2 ^ fails }
 
 -- The clock after an entry of the history.
 abbrev pub clock_after : ℕ → Entry → ClockView → ClockView
-clock_after unit (Accept n v) clock = if is_odd n then set_by unit v clock else added_by unit v clock
-clock_after unit Bad clock = blocked clock
+clock_after unit (Accept n v) clock = taken_by unit (kind_of n v) v clock
+clock_after unit Bad clock = after_bad clock
 clock_after unit (Elapsed s) clock = record clock { left = clock.left - s; block = clock.block - s }
 clock_after unit Raised clock = clock
 
@@ -83,11 +84,9 @@ is_clock clock =
     nat_le clock.left most_left && nat_le clock.fails 10 && (if clock.free then clock.left == 0 else true)
     && nat_le clock.block (longest_block clock.fails)
 
--- A token of this count and value does something that the rules name: an odd count gives 0 to 995 units, frees the
--- device by 998, or only moves the count by 999; an even count adds 0 to 995 units.
+-- The token of this count and value does something that the rules name: it is of some kind.
 abbrev pub HasEffect : ℕ → ℕ → Type 0
-HasEffect n v =
-    ((is_odd n ≡ true) × ((v ≤ 995) ⊎ ((v ≡ 998) ⊎ (v ≡ 999)))) ⊎ ((is_odd n ≡ false) × (v ≤ 995))
+HasEffect n v = IsSome (kind_of n v)
 
 -- Every entry by a customer came while nothing was blocked, and each accepted token has an effect.
 abbrev pub CameUnblocked : ℕ → Summary → List Entry → Type 0

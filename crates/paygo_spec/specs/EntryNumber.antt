@@ -37,5 +37,5 @@ after_entry unit summary (Some e) =
     if follows summary e then Some (snapshot unit summary (e ∷ [])) else None
 
 -- The summary after the entry of a number that was read from the flash, or none where the number is damaged.
-abbrev pub next : ℕ → Summary → ℕ → Option Summary
-next unit summary x = after_entry unit summary (entry_of x)
+abbrev pub after_number : ℕ → Summary → ℕ → Option Summary
+after_number unit summary x = after_entry unit summary (entry_of x)

@@ -1,5 +1,5 @@
 -- The flash: 1,024 words of 64 bits in two banks of 512 words. A word is programmed once, and a bank is erased whole.
-use Rattle.std.specs.Prelude.{◌≡◌, ℕ, ◌+◌, ◌-◌, ◌*◌, ◌^◌, ◌<◌, ◌≤◌, List, length, take, drop, map, ◌++◌, Bool, true, false, None, Some, bit_and, bit_or, slice_index, slice_set}
+use Rattle.std.specs.Prelude.{◌≡◌, ℕ, ◌+◌, ◌-◌, ◌*◌, ◌^◌, ◌<◌, ◌≤◌, List, length, take, drop, map, ◌++◌, ◌⊎◌, Bool, true, false, None, Some, bit_and, bit_or, slice_index, slice_set}
 use Rattle.std.specs.Option.{option_map}
 use Rattle.std.specs.declared.option.Option.{Option}
 use Rattle.paygo_spec.specs.Faults.{Rose}
@@ -31,25 +31,61 @@ same_words words = words
 
 -- The words with this bank erased.
 abbrev pub erased_bank : ℕ → List ℕ → List ℕ
-erased_bank bank words = take (bank * 512) words ++ map (λ _. erased_word) (take 512 (drop (bank * 512) words)) ++ drop (bank * 512 + 512) words
+erased_bank bank words =
+    take (bank * 512) words ++ map (λ _. erased_word) (take 512 (drop (bank * 512) words))
+    ++ drop (bank * 512 + 512) words
 
--- The due after a live call that answered Ok: a number falls by one, None stays. What isn't told isn't told later.
-abbrev pub DuePasses : Option (Option ℕ) → Option (Option ℕ) → Type 0
-DuePasses None new = new ≡ None
-DuePasses (Some None) new = new ≡ Some None
-DuePasses (Some (Some n)) new = (0 < n) × (new ≡ Some (Some (n - 1)))
+-- The due after n live calls that succeeded: a number falls by n, None stays. What isn't told isn't told later.
+abbrev pub DueAfter : ℕ → Option (Option ℕ) → Option (Option ℕ) → Type 0
+DueAfter n None new = new ≡ None
+DueAfter n (Some None) new = new ≡ Some None
+DueAfter n (Some (Some due)) new = (n ≤ due) × (new ≡ Some (Some (due - n)))
 
--- The due after a live call that failed: it was 0, and is None.
-abbrev pub DueFails : Option (Option ℕ) → Option (Option ℕ) → Type 0
-DueFails None new = new ≡ None
-DueFails (Some due) new = (due ≡ Some 0) × (new ≡ Some None)
+-- The due after one of n live calls failed: it was below n, and is None.
+abbrev pub DueWithin : ℕ → Option (Option ℕ) → Option (Option ℕ) → Type 0
+DueWithin n None new = new ≡ None
+DueWithin n (Some None) new = ⊥
+DueWithin n (Some (Some due)) new = (due < n) × (new ≡ Some None)
 
--- A live call passed, and changed the words like this.
+-- n live calls succeeded.
+pub record Passed (n : ℕ) (old new : FlashView) : Type 0 where
+  pub up : new.up ≡ true
+  pub due : DueAfter n old.due new.due
+  pub faults : new.faults ≡ old.faults
+
+-- One of n live calls failed, and those before it succeeded.
+pub record Failed (n : ℕ) (old new : FlashView) : Type 0 where
+  pub down : new.up ≡ false
+  pub due : DueWithin n old.due new.due
+  pub rose : Rose old.faults new.faults
+
+-- A live call succeeded, and changed the words like this.
 pub record Passes (change : List ℕ → List ℕ) (old new : FlashView) : Type 0 where
   pub words : new.words ≡ option_map change old.words
-  pub up : new.up ≡ true
-  pub due : DuePasses old.due new.due
-  pub later : old.faults ≤ new.faults
+  pub call : Passed 1 old new
+
+-- A failure that was planned is still to come, after at most so many calls, and no fault was counted.
+pub record IsAhead (due : ℕ) (old new : FlashView) : Type 0 where
+  pub left : ℕ
+  pub most : left ≤ due
+  pub due_is : new.due ≡ Some (Some left)
+  pub faults_are : new.faults ≡ old.faults
+
+-- A failure that was planned came, and none is planned any more.
+pub record HasCome (old new : FlashView) : Type 0 where
+  pub due_is : new.due ≡ Some None
+  pub rose : Rose old.faults new.faults
+
+-- Over some calls of a flash that told this due: nothing failed where nothing was planned to, and what was planned came once
+-- or is still to come. Of a flash that tells no due no more is said than that its count didn't fall.
+abbrev pub PlanFrom : Option (Option ℕ) → FlashView → FlashView → Type 0
+PlanFrom None old new = (new.due ≡ None) × (old.faults ≤ new.faults)
+PlanFrom (Some None) old new = (new.due ≡ Some None) × (new.faults ≡ old.faults)
+PlanFrom (Some (Some due)) old new = IsAhead due old new ⊎ HasCome old new
+
+-- The failures of these calls are those that were planned.
+abbrev pub KeepsPlan : FlashView → FlashView → Type 0
+KeepsPlan old new = PlanFrom old.due old new
 
 -- What is told, and what may have become of it. What doesn't tell never begins to tell.
 abbrev pub Becomes : (List ℕ → List ℕ → Type 0) → Option (List ℕ) → Option (List ℕ) → Type 0
@@ -61,10 +97,7 @@ Becomes torn (Some old) (Some new) = torn old new
 -- A live call failed, and this became of the words.
 pub record Fails (torn : Option (List ℕ) → Option (List ℕ) → Type 0) (old new : FlashView) : Type 0 where
   pub words : torn old.words new.words
-  pub up : new.up ≡ false
-  pub due : DueFails old.due new.due
-  pub later : old.faults ≤ new.faults
-  pub rose : Rose old.faults new.faults
+  pub call : Failed 1 old new
 
 -- Nothing became of the words.
 abbrev pub Stay : Option (List ℕ) → Option (List ℕ) → Type 0

@@ -52,7 +52,8 @@ takes origin entries value count = is_valid origin entries count value
 abbrev pub found : (ℕ → ℕ) → ℕ → Summary → List Entry → ℕ → Found
 found next start origin entries token =
     let value = value_in start token in
-    answer (is_raised (limit_of origin entries)) (is_match next start token value) (takes origin entries value) value (reach origin entries value)
+    let alone = is_raised (limit_of origin entries) in
+    answer alone (is_match next start token value) (takes origin entries value) value (reach origin entries value)
 
 -- A fact on the count and the value of an answer that is valid.
 abbrev pub IfValid : Found → (ℕ → ℕ → Type 0) → Type 0
@@ -70,7 +71,8 @@ pub record IsFirst (P : ℕ → Type 0) (n : ℕ) : Type 0 where
 -- reach. On a raised device: it is the token of this count and of none before, and the device takes it there, or doesn't.
 abbrev pub IsAnswerBy : Bool → (ℕ → Type 0) → (ℕ → Type 0) → ℕ → ℕ → Found → Type 0
 IsAnswerBy false Matches Takes value reach (Valid count v) = (v ≡ value) × IsFirst (λ m. Matches m × Takes m) count
-IsAnswerBy false Matches Takes value reach (Old count) = (count ≤ reach) × IsFirst Matches count × ((m : ℕ) → Matches m → Takes m → ⊥)
+IsAnswerBy false Matches Takes value reach (Old count) =
+    (count ≤ reach) × IsFirst Matches count × ((m : ℕ) → Matches m → Takes m → ⊥)
 IsAnswerBy true Matches Takes value reach (Valid count v) = (v ≡ value) × IsFirst Matches count × Takes count
 IsAnswerBy true Matches Takes value reach (Old count) = (count ≤ reach) × IsFirst Matches count × (Takes count → ⊥)
 IsAnswerBy raised Matches Takes value reach Invalid = (m : ℕ) → m ≤ reach → Matches m → ⊥
@@ -79,4 +81,6 @@ IsAnswerBy raised Matches Takes value reach Invalid = (m : ℕ) → m ≤ reach 
 abbrev pub IsAnswer : (ℕ → ℕ) → ℕ → Summary → List Entry → ℕ → Found → Type 0
 IsAnswer next start origin entries token answer =
     let value = value_in start token in
-    IsAnswerBy (is_raised (limit_of origin entries)) (λ m. token_at next start value m ≡ token) (λ m. IsValid origin entries m value) value (reach origin entries value) answer
+    let alone = is_raised (limit_of origin entries) in
+    IsAnswerBy alone (λ m. token_at next start value m ≡ token) (λ m. IsValid origin entries m value) value
+    (reach origin entries value) answer

@@ -1,9 +1,13 @@
 -- The history of a device: where it starts, and the entries since then, the newest first. So a history J with one
 -- entry e more is `e ∷ J`.
-use Rattle.std.specs.Prelude.{◌≡◌, ℕ, ◌+◌, ◌-◌, ◌%◌, ◌<◌, ◌≤◌, min, max, Bool, true, false, not, ◌&&◌, ◌||◌, ◌==◌, nat_lt, nat_le, ◌⊎◌, List, [], ◌∷◌, if◌then◌else◌}
+use Rattle.std.specs.Prelude.{◌≡◌, ℕ, ◌+◌, ◌-◌, ◌%◌, ◌<◌, ◌≤◌, min, max, Bool, true, false, not, ◌&&◌, ◌||◌, ◌==◌, nat_lt, nat_le, IsSome, is_some, ◌⊎◌, List, [], ◌∷◌, if◌then◌else◌}
 use Rattle.std.specs.Int.{bit_at}
+use Rattle.std.specs.declared.option.Option.{Option}
+use Rattle.std.specs.declared.option.Option.TheVariants.{None, Some}
 use Rattle.paygo_spec.specs.declared.Entry.{Entry}
 use Rattle.paygo_spec.specs.declared.Entry.TheVariants.{Accept, Raised}
+use Rattle.paygo_spec.specs.declared.TokenKind.{TokenKind}
+use Rattle.paygo_spec.specs.declared.TokenKind.TheVariants.{Add, Set, Free, Sync}
 
 -- The greatest count that a device ever takes, until it is raised, and from then on.
 abbrev pub first_limit : ℕ
@@ -34,6 +38,15 @@ fresh = record { limit = first_limit; last = 0; bits = 0; left = 0; free = false
 -- Odd counts are those of set tokens, even counts those of add tokens.
 abbrev pub is_odd : ℕ → Bool
 is_odd n = n % 2 == 1
+
+-- The kind of the token of this count and value, if there is one. A value up to 995 says how many units of time are set
+-- by an odd count, or added by an even one. With an odd count 998 frees the device, and 999 only moves the count.
+abbrev pub kind_of : ℕ → ℕ → Option TokenKind
+kind_of count value =
+    if nat_le value 995 then (if is_odd count then Some Set else Some Add)
+    else if is_odd count && value == 998 then Some Free
+    else if is_odd count && value == 999 then Some Sync
+    else None
 
 -- The greatest accepted count.
 abbrev pub top : Summary → List Entry → ℕ
@@ -78,23 +91,19 @@ IsSpent start entries count =
 abbrev pub reach : Summary → List Entry → ℕ → ℕ
 reach start entries value = min (limit_of start entries) (top start entries + (if value == 999 then 100 else 64))
 
--- The values of a set token: 0 to 995 units of time, 998 for a device that is paid off, and 999 for a sync token.
-abbrev pub IsSetValue : ℕ → Type 0
-IsSetValue value = (value ≤ 995) ⊎ ((value ≡ 998) ⊎ (value ≡ 999))
-
--- A device with this history takes the token of this count and value. A set token is taken above every accepted
--- count. An add token, of 0 to 995 units, is taken in any order, unless it is spent, or sixteen counts or more below
--- the greatest accepted one.
+-- A device with this history takes the token of this count and value, which must be of some kind. One of an odd count
+-- is taken above every accepted count. An add token, of an even count, is taken in any order, unless it is spent, or
+-- sixteen counts or more below the greatest accepted one.
 abbrev pub Valid : Summary → List Entry → ℕ → ℕ → Type 0
 Valid start entries count value =
-    (1 ≤ count) × (count ≤ reach start entries value) ×
-    (((is_odd count ≡ true) × (top start entries < count) × IsSetValue value) ⊎
-    ((is_odd count ≡ false) × (value ≤ 995) × (top start entries < count + 16) × (spent start entries count ≡ false)))
+    (1 ≤ count) × (count ≤ reach start entries value) × IsSome (kind_of count value) ×
+    (((is_odd count ≡ true) × (top start entries < count)) ⊎
+    ((is_odd count ≡ false) × (top start entries < count + 16) × (spent start entries count ≡ false)))
 
 -- The same as a test, for a search.
 abbrev pub is_valid : Summary → List Entry → ℕ → ℕ → Bool
 is_valid start entries count value =
-    nat_le 1 count && nat_le count (reach start entries value) &&
+    nat_le 1 count && nat_le count (reach start entries value) && is_some (kind_of count value) &&
     (if is_odd count
-    then nat_lt (top start entries) count && (nat_le value 995 || (value == 998 || value == 999))
-    else nat_le value 995 && (nat_lt (top start entries) (count + 16) && not (spent start entries count)))
+    then nat_lt (top start entries) count
+    else nat_lt (top start entries) (count + 16) && not (spent start entries count))

@@ -52,7 +52,8 @@ room at = (512 - at.place) + (last_bank - at.number) * 500
 -- The position one entry on. From a full bank it is that behind the first entry of the next one.
 abbrev pub further : Position → Position
 further at =
-    if at.place == 512 then record { number = at.number + 1; place = 13 } else record { number = at.number; place = at.place + 1 }
+    if at.place == 512 then record { number = at.number + 1; place = 13 }
+    else record { number = at.number; place = at.place + 1 }
 
 -- The position in a next bank that has no entry yet.
 abbrev pub turned : Position → Position

@@ -16,7 +16,6 @@ pub mod Found
 pub mod Pad
 pub mod Typed
 pub mod Layout
-pub mod Calls
 pub mod Words
 pub mod Recovery
 pub mod Machine

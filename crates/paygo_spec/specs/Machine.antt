@@ -1,7 +1,7 @@
 -- The device as a machine: what may be replied to each event, and what stands then. Its free choices are that the flash
 -- may fail in an event that uses it, which the flash's count of faults shows, and whether an event that was cut off so
 -- counts, and at which position the next entry goes.
-use Rattle.std.specs.Prelude.{◌≡◌, ◌≢◌, ℕ, ◌^◌, ◌<◌, ◌≤◌, ◌⊎◌, Bool, true, false, ◌==◌, ◌&&◌, nat_le, min, List, [], ◌∷◌, Option, Some, None, if◌then◌else◌}
+use Rattle.std.specs.Prelude.{◌≡◌, ◌≢◌, ℕ, ◌^◌, ◌<◌, ◌≤◌, ◌⊎◌, Bool, true, false, ◌==◌, ◌&&◌, min, List, [], ◌∷◌, Option, Some, None, if◌then◌else◌}
 use Rattle.paygo_spec.specs.declared.Config.{Config}
 use Rattle.paygo_spec.specs.declared.Entry.{Entry}
 use Rattle.paygo_spec.specs.declared.Entry.TheVariants.{Accept, Bad, Elapsed, Raised}
@@ -9,14 +9,16 @@ use Rattle.paygo_spec.specs.declared.Event.{Event}
 use Rattle.paygo_spec.specs.declared.Event.TheVariants.{Power, Make, Key, Tick, Show, Raise}
 use Rattle.paygo_spec.specs.declared.Reply.{Reply}
 use Rattle.paygo_spec.specs.declared.Reply.TheVariants as reply_is
+use Rattle.paygo_spec.specs.declared.TokenKind.{TokenKind}
+use Rattle.paygo_spec.specs.declared.TokenKind.TheVariants.{Add, Set, Free}
 use Rattle.paygo_spec.specs.Faults.{Rose}
 use Rattle.paygo_spec.specs.Flash.{FlashView}
-use Rattle.paygo_spec.specs.History.{Summary, fresh, raised_limit, limit_of, top, is_odd}
+use Rattle.paygo_spec.specs.History.{Summary, fresh, raised_limit, limit_of, top, kind_of}
 use Rattle.paygo_spec.specs.Clock.{ClockView, clock_of, divides_day, unit_of}
 use Rattle.paygo_spec.specs.Lawful.{Lawful}
 use Rattle.paygo_spec.specs.Snapshot.{snapshot}
 use Rattle.paygo_spec.specs.Pad.{Keys, IsKey, no_keys, after_key, after_seconds, held_of}
-use Rattle.paygo_spec.specs.Typed.{Typed, WrongLength, WrongDigit, Blocked, Overtaken, Makes, typed}
+use Rattle.paygo_spec.specs.Typed.{Typed, WrongLength, WrongDigit, Blocked, OldToken, Makes, typed}
 use Rattle.paygo_spec.specs.Layout.{Position, first_position, last_bank, room, further, turned, Leaves, calls_of_entry}
 use Rattle.paygo_spec.specs.Recovery.{Recovered, Unmade, Damaged, Made, recover}
 
@@ -102,16 +104,16 @@ clock_at history entries = clock_of (unit_for history) history.start entries
 abbrev pub shows_same : ClockView → ClockView → Bool
 shows_same now before = (now.left == before.left) && (now.block == before.block)
 
--- The reply to an accepted token of an odd count.
-abbrev pub reply_to_set : ℕ → ℕ → ClockView → Reply
-reply_to_set count value clock =
-    if nat_le value 995 then reply_is.Set count value clock.left
-    else if value == 998 then reply_is.Free count
-    else reply_is.Synced count
+-- The reply to an accepted token of this kind, by the clock after it.
+abbrev pub reply_to_token : Option TokenKind → ℕ → ℕ → ClockView → Reply
+reply_to_token (Some Add) count value clock = reply_is.Added count value clock.left clock.free
+reply_to_token (Some Set) count value clock = reply_is.Set count value clock.left
+reply_to_token (Some Free) count value clock = reply_is.Free count
+reply_to_token _ count value clock = reply_is.Synced count
 
 -- The reply to an entry that was added to the history, by the clock after it.
 abbrev pub reply_to_entry : Entry → ClockView → Reply
-reply_to_entry (Accept count value) clock = if is_odd count then reply_to_set count value clock else reply_is.Added count value clock.left clock.free
+reply_to_entry (Accept count value) clock = reply_to_token (kind_of count value) count value clock
 reply_to_entry Bad clock = reply_is.Invalid clock.block
 reply_to_entry (Elapsed seconds) clock = reply_is.Ticked clock.left clock.free clock.block
 reply_to_entry Raised clock = reply_is.Raised
@@ -128,7 +130,8 @@ reply_to_power (Journal history) =
 abbrev pub shown : History → Keys → Reply
 shown history keys =
     let clock = clock_at history history.entries in
-    reply_is.Shown (top history.start history.entries) clock.left clock.free clock.fails clock.block (held_of keys) (room history.at)
+    let count = top history.start history.entries in
+    reply_is.Shown count clock.left clock.free clock.fails clock.block (held_of keys) (room history.at)
 
 -- What an event comes to on a device that was made.
 pub data Effect : Type 0 where
@@ -144,13 +147,14 @@ abbrev pub effect_of_typed : History → Typed → Effect
 effect_of_typed history (WrongLength n) = Answers (Some (reply_is.Length (min n 99))) history.entries
 effect_of_typed history (WrongDigit place) = Answers (Some (reply_is.Digits place)) history.entries
 effect_of_typed history (Blocked block) = Answers (Some (reply_is.Blocked block)) history.entries
-effect_of_typed history Overtaken = Answers (Some reply_is.Old) history.entries
-effect_of_typed history (Makes entry clock) = Adds entry
+effect_of_typed history OldToken = Answers (Some reply_is.Old) history.entries
+effect_of_typed history (Makes entry) = Adds entry
 
 -- What becomes of these digits on a device with this history.
 abbrev pub typed_on : (List ℕ → ℕ → ℕ) → History → List ℕ → Typed
 typed_on next history digits =
-    typed (next history.config.key) history.config.start (unit_for history) history.config.form history.start history.entries digits
+    let config = history.config in
+    typed (next config.key) config.start (unit_for history) config.form history.start history.entries digits
 
 -- What seconds come to: where the clock shows the same after them, they cost no word of the flash.
 abbrev pub effect_of_seconds : History → ℕ → Effect
@@ -163,7 +167,9 @@ effect_of_seconds history seconds =
 -- What it comes to that a device is raised: once, and from then on nothing.
 abbrev pub effect_of_raise : History → Effect
 effect_of_raise history =
-    if limit_of history.start history.entries == raised_limit then Answers (Some reply_is.Raised) history.entries else Raises
+    if limit_of history.start history.entries == raised_limit
+    then Answers (Some reply_is.Raised) history.entries
+    else Raises
 
 -- What an event but Power comes to on a device that was made. The key `#` hands the entry in.
 abbrev pub effect_of : (List ℕ → ℕ → ℕ) → History → Keys → Event → Effect
@@ -201,7 +207,8 @@ MayRaise history reply new =
 
 -- The reply to an event with this effect, and what the flash stands for then.
 abbrev pub Meets : History → Effect → Option Reply → Stored → Type 0
-Meets history (Answers answer entries) reply new = (reply ≡ answer) × (new ≡ Journal (gone_on history entries history.at))
+Meets history (Answers answer entries) reply new =
+    (reply ≡ answer) × (new ≡ Journal (gone_on history entries history.at))
 Meets history (Adds entry) reply new = MayAdd history entry reply new
 Meets history Raises reply new = MayRaise history reply new
 
@@ -234,18 +241,22 @@ keys_after stored (Key key) keys = keys_after_key stored key keys
 keys_after stored (Tick seconds) keys = after_seconds seconds keys
 keys_after stored _ keys = keys
 
--- It goes on, on or off and with these keys, and the count of faults doesn't fall.
+-- It goes on, on or off and with these keys, and no fault is counted.
 pub record Goes (on : Bool) (keys : Keys) (old new : State) : Type 0 where
   pub on_is : new.on ≡ on
   pub keys_are : new.keys ≡ keys
-  pub later : old.faults ≤ new.faults
+  pub faults_are : new.faults ≡ old.faults
 
--- The flash failed in this event: its count rose, and the device is off, with a cleared pad.
+-- The flash failed in this event, once: its count rose, and the device is off, with a cleared pad.
 pub record Falls (old new : State) : Type 0 where
   pub off : new.on ≡ false
   pub cleared : new.keys ≡ no_keys
-  pub later : old.faults ≤ new.faults
   pub rose : Rose old.faults new.faults
+
+-- An event that is answered Down was one fault of the flash, and any other was none.
+abbrev pub FaultsBy : Option Reply → ℕ → ℕ → Type 0
+FaultsBy (Some reply_is.Down) before now = Rose before now
+FaultsBy reply before now = now ≡ before
 
 -- How a device that is on goes on by its reply.
 abbrev pub GoesBy : Option Reply → Keys → State → State → Type 0
@@ -255,7 +266,8 @@ GoesBy reply keys old new = Goes true keys old new
 -- A device that is on, or off, may reply this to an event but Power.
 abbrev pub ActsIf : Bool → (List ℕ → ℕ → ℕ) → Event → Option Reply → State → State → Type 0
 ActsIf true next event reply old new =
-    Replies next old.stored old.keys event reply new.stored × GoesBy reply (keys_after old.stored event old.keys) old new
+    Replies next old.stored old.keys event reply new.stored
+    × GoesBy reply (keys_after old.stored event old.keys) old new
 ActsIf false next event reply old new = (reply ≡ None) × (new.stored ≡ old.stored) × Goes false old.keys old new
 
 -- A device, on or off, may reply this when its power comes.

@@ -11,7 +11,7 @@ use Rattle.paygo_spec.specs.Least.{least}
 use Rattle.paygo_spec.specs.History.{Summary, first_limit, raised_limit}
 use Rattle.paygo_spec.specs.Window.{is_window}
 use Rattle.paygo_spec.specs.Clock.{most_left, longest_block, unit_of}
-use Rattle.paygo_spec.specs.EntryNumber.{next}
+use Rattle.paygo_spec.specs.EntryNumber.{after_number}
 use Rattle.paygo_spec.specs.Clock.{divides_day}
 use Rattle.paygo_spec.specs.Layout.{Position, last_bank}
 
@@ -41,7 +41,8 @@ number_at words bank place = number_in (word_at words bank place)
 -- A header, the first word of a bank, without damage: paired, as every word is that was erased, written or cut off, and
 -- with a bank's number where it is railed.
 abbrev pub is_header : ℕ → Bool
-is_header word = is_paired word && (not (is_railed word) || (nat_le 1 (number_in word) && nat_le (number_in word) last_bank))
+is_header word =
+    is_paired word && (not (is_railed word) || (nat_le 1 (number_in word) && nat_le (number_in word) last_bank))
 
 -- The first four steps: the two headers say which bank is in use, that no device was made, or that a header is damaged.
 -- Two banks of one number are damage of the second.
@@ -56,7 +57,8 @@ newest_bank first second =
 
 -- The number at place 6 is format 1 or 2, a form, and a divider of a day's seconds.
 abbrev pub is_format : ℕ → Bool
-is_format x = (x / 2 ^ 16 == 2 ^ 8 || x / 2 ^ 16 == 2 * 2 ^ 8) && is_some (form_of (x / 2 ^ 8 % 2 ^ 8)) && divides_day (x % 2 ^ 8)
+is_format x =
+    (x / 2 ^ 16 == 2 ^ 8 || x / 2 ^ 16 == 2 * 2 ^ 8) && is_some (form_of (x / 2 ^ 8 % 2 ^ 8)) && divides_day (x % 2 ^ 8)
 
 -- The number at place 10 has no bit above bit 8, at most ten failures, and, where bit 8 says that the device is free, no
 -- time left at the places before it.
@@ -86,7 +88,9 @@ keeps_rule numbers place =
 abbrev pub config_in_head : (ℕ → ℕ) → Config
 config_in_head numbers =
     record {
-      key = to_be_bytes w32 (numbers 1) ++ (to_be_bytes w32 (numbers 2) ++ (to_be_bytes w32 (numbers 3) ++ to_be_bytes w32 (numbers 4)));
+      key =
+          to_be_bytes w32 (numbers 1)
+          ++ (to_be_bytes w32 (numbers 2) ++ (to_be_bytes w32 (numbers 3) ++ to_be_bytes w32 (numbers 4)));
       start = numbers 5;
       divider = numbers 6 % 2 ^ 8;
       form = if numbers 6 / 2 ^ 8 % 2 ^ 8 == 15 then Fifteen else Nine;
@@ -114,7 +118,8 @@ is_damaged words bank place =
 -- one that is no entry, or none that may follow, is damage.
 abbrev pub after_word : ℕ → ℕ → ℕ → Result Summary ℕ → Result Summary ℕ
 after_word unit at word (Err damaged) = Err damaged
-after_word unit at word (Ok summary) = if is_railed word then ok_or (next unit summary (number_in word)) at else Ok summary
+after_word unit at word (Ok summary) =
+    if is_railed word then ok_or (after_number unit summary (number_in word)) at else Ok summary
 
 -- The summary after the first n words of a bank that are entries, or the first of them that is damaged.
 unfoldable pub summary_after : List ℕ → ℕ → ℕ → Summary → ℕ → Result Summary ℕ

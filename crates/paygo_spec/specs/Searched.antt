@@ -30,7 +30,8 @@ SearchedOn next _ = Unit {0}
 -- How often a token took effect.
 abbrev pub effects : (ℕ → ℕ) → ℕ → ℕ → List Entry → ℕ
 effects next start token [] = 0
-effects next start token (Accept n v ∷ entries) = (if token_at next start v n == token then 1 else 0) + effects next start token entries
+effects next start token (Accept n v ∷ entries) =
+    (if token_at next start v n == token then 1 else 0) + effects next start token entries
 effects next start token (_ ∷ entries) = effects next start token entries
 
 -- The token of this count and value is that of no other count up to it, nor up to 4,095.

@@ -16,7 +16,8 @@ is_used start entries i = nat_lt i (top start entries) && spent start entries (t
 
 -- The window of a history.
 abbrev pub window_of : Summary → List Entry → WindowView
-window_of start entries = record { limit = limit_of start entries; last = top start entries; bits = bits_of (is_used start entries) 16 }
+window_of start entries =
+    record { limit = limit_of start entries; last = top start entries; bits = bits_of (is_used start entries) 16 }
 
 -- The snapshot of a history: its limit, the greatest accepted count, which of the sixteen counts up to it are spent, and
 -- what the clock shows.

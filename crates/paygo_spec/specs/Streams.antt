@@ -1,8 +1,8 @@
 -- Sources and sinks of bytes.
-use Rattle.std.specs.Prelude.{◌≡◌, ℕ, ◌+◌, ◌-◌, ◌^◌, ◌<◌, ◌≤◌, min, max, List, length, take, Bool, if◌then◌else◌, ◌==◌}
+use Rattle.std.specs.Prelude.{◌≡◌, ℕ, ◌<◌, ◌≤◌, List, length, take, Bool, if◌then◌else◌, ◌==◌}
 use Rattle.std.specs.declared.option.Option.{Option}
 use Rattle.std.specs.Io.KnownBytes.{prepend_known, append_known, IsAtEnd}
-use Rattle.paygo_spec.specs.Faults.{Rose}
+use Rattle.paygo_spec.specs.Faults.{raised, Rose}
 
 -- What is seen of a source: the bytes left where it tells them, how many bytes were taken from it (a number that
 -- stands still at 2^64 - 1), whether it has told its end, and its count of faults.
@@ -12,10 +12,6 @@ pub record SourceView : Type 0 where
   pub ended : Bool
   pub faults : ℕ
 
--- A counter that stands still at the end of its type, n higher.
-abbrev pub raised : ℕ → ℕ → ℕ
-raised count n = max count (min (count + n) (2 ^ 64 - 1))
-
 -- A read into this buffer gave n bytes, the next ones of the source. It gives none only at the end, or into no room.
 pub record Gives (n : ℕ) (buf : List ℕ) (old new : SourceView) : Type 0 where
   pub bound : n ≤ length buf
@@ -23,14 +19,13 @@ pub record Gives (n : ℕ) (buf : List ℕ) (old new : SourceView) : Type 0 wher
   pub taken : new.taken ≡ raised old.taken n
   pub ended : new.ended ≡ (if length buf == 0 then old.ended else n == 0)
   pub nothing : n ≡ 0 → 0 < length buf → IsAtEnd new.left
-  pub later : old.faults ≤ new.faults
+  pub faults : new.faults ≡ old.faults
 
 -- A read failed, and took nothing.
 pub record GivesNothing (old new : SourceView) : Type 0 where
   pub left : new.left ≡ old.left
   pub taken : new.taken ≡ old.taken
   pub ended : new.ended ≡ old.ended
-  pub later : old.faults ≤ new.faults
   pub rose : Rose old.faults new.faults
 
 -- What is seen of a sink: the bytes written where it tells them, and its count of faults.
@@ -43,10 +38,9 @@ pub record Takes (n : ℕ) (bytes : List ℕ) (old new : SinkView) : Type 0 wher
   pub bound : n ≤ length bytes
   pub some : 0 < length bytes → 0 < n
   pub written : new.written ≡ append_known old.written (take n bytes)
-  pub later : old.faults ≤ new.faults
+  pub faults : new.faults ≡ old.faults
 
 -- A write failed, and took nothing.
 pub record TakesNothing (old new : SinkView) : Type 0 where
   pub written : new.written ≡ old.written
-  pub later : old.faults ≤ new.faults
   pub rose : Rose old.faults new.faults

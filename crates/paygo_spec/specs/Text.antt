@@ -32,4 +32,5 @@ text_of Unmade = codes "unmade"
 text_of (Made number) = with_number (codes "made") number
 text_of (Damaged place) = with_number (codes "damaged") place
 text_of (Shown count left free fails block held room) =
-    with_number (with_number (with_number (with_number (with_left (with_number (codes "shown") count) left free) fails) block) held) room
+    let clock = with_number (with_number (with_left (with_number (codes "shown") count) left free) fails) block in
+    with_number (with_number clock held) room

@@ -41,7 +41,8 @@ pub record IsWindow (limit last bits : ℕ) : Type 0 where
   -- there is no count below 1
   pub no_count : (i : ℕ) → i < 16 → last ≤ i → bit_at bits i ≡ 0
   -- below a spent odd count, whose set token overtook them, all counts are spent
-  pub overtaken : (i j count : ℕ) → i < j → j < 16 → j < last → i + count ≡ last → is_odd count ≡ true → bit_at bits i ≡ 1 → bit_at bits j ≡ 1
+  pub overtaken : (i j count : ℕ) → i < j → j < 16 → j < last → i + count ≡ last → is_odd count ≡ true
+      → bit_at bits i ≡ 1 → bit_at bits j ≡ 1
 
 -- A test of each number below n.
 unfoldable pub all_below : (ℕ → Bool) → ℕ → Bool
@@ -53,4 +54,5 @@ abbrev pub is_window : ℕ → ℕ → ℕ → Bool
 is_window limit last bits =
     nat_le last limit && nat_lt bits (2 ^ 16) && (bit_at bits 0 == bit (nat_lt 0 last)) &&
     all_below (λ i. nat_lt i last || bit_at bits i == 0) 16 &&
-    all_below (λ j. all_below (λ i. not (nat_lt j last && is_odd (last - i) && bit_at bits i == 1) || bit_at bits j == 1) j) 16
+    all_below (λ j.
+    all_below (λ i. not (nat_lt j last && is_odd (last - i) && bit_at bits i == 1) || bit_at bits j == 1) j) 16

@@ -22,7 +22,8 @@ decimal_in most word = if nat_le 1 (length word) && nat_le (length word) most th
 
 -- What stands behind a beginning.
 abbrev pub after_prefix : List ℕ → List ℕ → Option (List ℕ)
-after_prefix prefix line = if bytes_eq (take (length prefix) line) prefix then Some (drop (length prefix) line) else None
+after_prefix prefix line =
+    if bytes_eq (take (length prefix) line) prefix then Some (drop (length prefix) line) else None
 
 -- The first word, which ends at a space, and what stands behind that space.
 abbrev pub first_word : List ℕ → Option (List ℕ × List ℕ)

@@ -3,7 +3,9 @@
 #![tactic(auto)]
 
 ghost use Rattle.std.specs.Prelude.{◌≡◌, ◌≢◌, ◌↔◌, IsNone, IfSome};
+ghost use Rattle.paygo_spec.specs.Clock.{divides_day};
 ghost use Rattle.paygo_spec.specs.Digits.{digit_count, form_of};
+ghost use Rattle.paygo_spec.specs.History.{kind_of};
 
 /// The greatest count of a token on a device that wasn't raised. The counts of a chain run from 0 to this one.
 pub const LAST: u16 = 4095;
@@ -16,6 +18,13 @@ pub const MOST_LEFT: u64 = 1_000_000_000_000;
 
 /// How many seconds a day has.
 pub const DAY: u32 = 86_400;
+
+/// Whether a day has a whole number of seconds for so many units of time: only then can a device have this divider.
+pub fn is_divider(n: u64) -> bool
+    ensures { result ≡ divides_day n }
+{
+    n > 0 && n < 256 && u64::from(DAY) % n == 0
+}
 
 /// What a device's history is made of: one entry for each event that changed its state, and one for each tick. Of ticks
 /// that changed nothing the flash keeps no entry.
@@ -30,6 +39,41 @@ pub enum Entry {
     /// The device was raised: from now on it takes counts up to 16,383, and the least match of a token alone decides. No
     /// word of the flash says so: it stands in the head of a bank.
     Raised,
+}
+
+/// What kind of token a count and a value are.
+#[derive(Clone, Copy, Debug, PartialEq, Eq)]
+pub enum TokenKind {
+    /// An add token: its units are added to the time left.
+    Add,
+    /// A set token: the time left becomes its units.
+    Set,
+    /// A disable token: the device is paid off, and free from now on.
+    Free,
+    /// A sync token: only the count moves.
+    Sync,
+}
+
+impl TokenKind {
+    /// The kind of the token of this count and value. A value up to 995 is that of a set token with an odd count, and of
+    /// an add token with an even one; with an odd count 998 is that of a disable token, and 999 that of a sync token.
+    /// None for any others, which no token has.
+    pub fn of(count: u16, value: u16) -> Option<TokenKind>
+        ensures { result ≡ kind_of count value }
+    {
+        if count % 2 == 1 {
+            match value {
+                0..=995 => Some(TokenKind::Set),
+                998 => Some(TokenKind::Free),
+                999 => Some(TokenKind::Sync),
+                _ => None,
+            }
+        } else if value <= 995 {
+            Some(TokenKind::Add)
+        } else {
+            None
+        }
+    }
 }
 
 /// The form in which a token is typed.

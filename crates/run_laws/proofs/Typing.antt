@@ -1,6 +1,6 @@
 -- What comes of typing a token that may be used.
-use Rattle.std.proofs.Common.{◌≡◌, ◌≢◌, ℕ, ◌+◌, ◌^◌, if◌then◌else◌, ◌<◌, ◌≤◌, Bool, true, false, cond, not, ◌==◌, List, [], ◌∷◌, ◌++◌, length, map, Option, Some, None, refl, sym, ap, ◌∙◌, subst, arith, append_assoc, append-nil}
-use Rattle.std.specs.Prelude.{nat_lt, nat_le, unwrap_or}
+use Rattle.std.proofs.Common.{◌≡◌, ◌≢◌, ℕ, ◌+◌, ◌^◌, ◌<◌, ◌≤◌, Bool, true, false, cond, not, ◌==◌, List, [], ◌∷◌, ◌++◌, length, map, Option, Some, None, refl, sym, ap, ◌∙◌, subst, arith, append_assoc, append-nil}
+use Rattle.std.specs.Prelude.{nat_lt, unwrap_or}
 use Rattle.std.specs.List.{position_from}
 use Rattle.std.specs.Option.{option_map}
 use Rattle.std.proofs.lemmas.Bool.Decides.{nat_tests}
@@ -13,12 +13,14 @@ use Rattle.paygo_spec.specs.declared.Found.{Found}
 use Rattle.paygo_spec.specs.declared.Found.TheVariants as found_is
 use Rattle.paygo_spec.specs.declared.Reply.{Reply}
 use Rattle.paygo_spec.specs.declared.Reply.TheVariants as reply_is
-use Rattle.paygo_spec.specs.Clock.{ClockView, clock_of, clock_after}
+use Rattle.paygo_spec.specs.declared.TokenKind.{TokenKind}
+use Rattle.paygo_spec.specs.declared.TokenKind.TheVariants.{Add, Set, Free, Sync}
+use Rattle.paygo_spec.specs.Clock.{ClockView, clock_of}
 use Rattle.paygo_spec.specs.Digits.{digit_count, digits_of, first_fault, is_digit, token_limit}
 use Rattle.paygo_spec.specs.Found.{found}
-use Rattle.paygo_spec.specs.History.{Summary, is_odd}
+use Rattle.paygo_spec.specs.History.{Summary, kind_of}
 use Rattle.paygo_spec.specs.Layout.{Position}
-use Rattle.paygo_spec.specs.Machine.{State, Stored, History, Answers, Acts, ActsIf, Replies, Meets, MayAdd, GoesBy, clock_at, unit_for, effect_of, effect_of_typed, typed_on, reply_to_entry, reply_to_set, keys_after}
+use Rattle.paygo_spec.specs.Machine.{State, Stored, History, Answers, Acts, ActsIf, Replies, Meets, MayAdd, GoesBy, clock_at, unit_for, effect_of, effect_of_typed, typed_on, reply_to_entry, reply_to_token, keys_after}
 use Rattle.paygo_spec.specs.Pad.{Keys, after_key}
 use Rattle.paygo_spec.specs.Typed.{Typed, WrongLength, Blocked, Makes, by_found, by_digits, by_length, token_in, typed}
 use Rattle.digit_set.proofs.Tokens.{length-digits_of, first_fault-digits_of, value_of-digits_of}
@@ -39,23 +41,23 @@ fits_form Fifteen token small = omega arith
 -- the digits of such a token make its entry
 typed_valid : (next : ℕ → ℕ) (start unit : ℕ) (form : Form) (origin : Summary) (entries : List Entry) (token n v : ℕ) → token < 10 ^ 9 → (clock_of unit origin entries).block ≡ 0
     → found_is.Valid n v ≡ found next start origin entries token
-    → typed next start unit form origin entries (digits_of form token) ≡ Makes (Accept n v) (clock_after unit (Accept n v) (clock_of unit origin entries))
+    → typed next start unit form origin entries (digits_of form token) ≡ Makes (Accept n v)
 typed_valid next start unit form origin entries token n v small free is =
     let clock : ClockView = clock_of unit origin entries in
     let long : (length (digits_of form token) == digit_count form) ≡ true = ap (λ (k : ℕ). k == digit_count form) (length-digits_of form token) ∙ same_count form in
     let read : token_in form (digits_of form token) ≡ token = ap (λ (o : Option ℕ). unwrap_or o 0) (value_of-digits_of form token (fits_form form token small)) in
     let open' : nat_lt 0 clock.block ≡ false = ap (nat_lt 0) free in
-    ap (λ (t : ℕ). by_length form (digits_of form token) unit clock (found next start origin entries t)) read
-    ∙ ap (λ (f : Found). by_length form (digits_of form token) unit clock f) (sym is)
+    ap (λ (t : ℕ). by_length form (digits_of form token) clock (found next start origin entries t)) read
+    ∙ ap (λ (f : Found). by_length form (digits_of form token) clock f) (sym is)
     ∙ ap (λ (b : Bool). if_long b) long
-    ∙ ap (λ (o : Option ℕ). by_digits unit clock (found_is.Valid n v) o) (first_fault-digits_of form token)
+    ∙ ap (λ (o : Option ℕ). by_digits clock (found_is.Valid n v) o) (first_fault-digits_of form token)
     ∙ ap (λ (b : Bool). if_open b) open'
   where
     if_long : Bool → Typed
-    if_long b = cond b (by_digits unit (clock_of unit origin entries) (found_is.Valid n v) (first_fault form (digits_of form token))) (WrongLength (length (digits_of form token)))
+    if_long b = cond b (by_digits (clock_of unit origin entries) (found_is.Valid n v) (first_fault form (digits_of form token))) (WrongLength (length (digits_of form token)))
 
     if_open : Bool → Typed
-    if_open b = cond b (Blocked (clock_of unit origin entries).block) (by_found unit (clock_of unit origin entries) (found_is.Valid n v))
+    if_open b = cond b (Blocked (clock_of unit origin entries).block) (by_found (found_is.Valid n v))
 
 -- what a device that is up answers to a key
 key_acts : (next : List ℕ → ℕ → ℕ) (key : ℕ) (reply : Option Reply) (old new : State) (history : History) → IsUp old history → Acts next (Key key) reply old new
@@ -115,18 +117,15 @@ key_taken next key (Some (Did answer)) old new may = absurd may
 key_taken next key (Some (Told reply)) old new may = (Some reply, refl, may.0.1)
 
 -- the reply to an accepted token has its count
+accepted_as : (kind : Option TokenKind) (n v : ℕ) (at : Position) (clock : ClockView) → IsTaken n at (Some (Told (reply_to_token kind n v clock)))
+accepted_as (Some Add) n v at clock = refl
+accepted_as (Some Set) n v at clock = refl
+accepted_as (Some Free) n v at clock = refl
+accepted_as (Some Sync) n v at clock = refl
+accepted_as None n v at clock = refl
+
 accepted : (n v : ℕ) (at : Position) (clock : ClockView) → IsTaken n at (Some (Told (reply_to_entry (Accept n v) clock)))
-accepted n v at clock =
-    elim (is_odd n) as (λ b. IsTaken n at (Some (Told (if b then reply_to_set n v clock else reply_is.Added n v clock.left clock.free)))) [
-      | true ↦ elim (nat_le v 995) as (λ b. IsTaken n at (Some (Told (if b then reply_is.Set n v clock.left else if v == 998 then reply_is.Free n else reply_is.Synced n)))) [
-        | true ↦ refl
-        | false ↦ elim (v == 998) as (λ b. IsTaken n at (Some (Told (if b then reply_is.Free n else reply_is.Synced n)))) [
-          | true ↦ refl
-          | false ↦ refl
-        ]
-      ]
-      | false ↦ refl
-    ]
+accepted n v at clock = accepted_as (kind_of n v) n v at clock
 
 -- what is answered to an accepted token
 taken_by : (history : History) (n v : ℕ) (reply : Option Reply) (new : Stored) → MayAdd history (Accept n v) reply new → IsTaken n history.at (option_map Told reply)

@@ -8,6 +8,7 @@ ghost use Rattle.paygo_spec.specs.declared.Form.{Form};
 ghost use Rattle.paygo_spec.specs.declared.Found.TheVariants.{Valid as FoundValid};
 ghost use Rattle.paygo_spec.specs.declared.TheConstants.{LAST};
 ghost use Rattle.paygo_spec.specs.Chain.{token_at};
+ghost use Rattle.paygo_spec.specs.Faults.{raised};
 ghost use Rattle.paygo_spec.specs.Found.{found};
 ghost use Rattle.paygo_spec.specs.History.{Valid};
 ghost use Rattle.paygo_spec.specs.Machine.{Stored, History};
@@ -19,36 +20,15 @@ ghost use Rattle.ledger_spec.specs.declared.Row.{Row};
 ghost use Rattle.ledger_spec.specs.Sound.{Sound, StaysBelow};
 ghost use Rattle.ledger_spec.specs.Tables.{Tables, order_of, row_of, no_tables, Kept};
 ghost use Rattle.run_spec.specs.Run.{Step, Do, Answer, Did, World, Run};
-ghost use Rattle.run_spec.specs.Downs.{HasNoDown, RisesAtDowns, downs};
+ghost use Rattle.run_spec.specs.Downs.{downs};
 ghost use Rattle.run_spec.specs.Headline.{HasOrder, IsMatched, OrdersStand, TokensOnce, Point, IsUp, IsUsable, IsTakenLast, UsablesTaken, typing};
 
-/// The flash's count of faults never falls in a run.
-pub fn counts_never_fall()
+/// Each `down` of a run is one fault of the flash, which counted it, and nothing else is: behind a run the count is higher by
+/// as much as there are answers `down`, or stands still at 2^64 - 1. So it never falls, and where it stays as it was, below
+/// 2^64 - 1, no answer is `down`.
+pub fn each_down_is_one_fault()
     ensures { (next : List ℕ → ℕ → ℕ) (start now : World) (steps : List Step) (answers : List (Option Answer)) →
-        Run next start steps answers now → start.device.faults ≤ now.device.faults }
-{}
-
-/// Where the flash's count of faults didn't rise in a run, and doesn't stand at 2^64 - 1, no answer of the run is `down`.
-pub fn no_rise_no_down()
-    ensures { (next : List ℕ → ℕ → ℕ) (start now : World) (steps : List Step) (answers : List (Option Answer)) →
-        Run next start steps answers now → now.device.faults ≡ start.device.faults → start.device.faults < 2 ^ 64 - 1 →
-        HasNoDown answers }
-{}
-
-/// In every run each `down` has a rise of its own. There are numbers, one before each step and one behind the last, that
-/// begin with the flash's count of faults before the run, end with that after it and never fall; and behind each step that
-/// is answered `down` the number is greater than before that step, or stands at 2^64 - 1.
-pub fn each_down_has_a_rise()
-    ensures { (next : List ℕ → ℕ → ℕ) (start now : World) (steps : List Step) (answers : List (Option Answer)) →
-        Run next start steps answers now →
-        (counts : List ℕ) × RisesAtDowns start.device.faults answers counts now.device.faults }
-{}
-
-/// So where the flash's count of faults ends below 2^64 - 1, it rose by at least as much as there are answers `down`.
-pub fn downs_are_few()
-    ensures { (next : List ℕ → ℕ → ℕ) (start now : World) (steps : List Step) (answers : List (Option Answer)) →
-        Run next start steps answers now → now.device.faults < 2 ^ 64 - 1 →
-        start.device.faults + downs answers ≤ now.device.faults }
+        Run next start steps answers now → now.device.faults ≡ raised start.device.faults (downs answers) }
 {}
 
 /// Look-ups miss nothing: in tables in order each order is what its id finds, and each row is what its serial finds.
@@ -77,14 +57,16 @@ pub fn empty_tables_are_sound()
 
 /// Sound tables stay sound in every run.
 pub fn tables_stay_sound()
-    ensures { (next : List ℕ → ℕ → ℕ) → StaysBelow next → (start now : World) (steps : List Step) (answers : List (Option Answer)) →
+    ensures { (next : List ℕ → ℕ → ℕ) → StaysBelow next →
+        (start now : World) (steps : List Step) (answers : List (Option Answer)) →
         Sound next start.tables → Run next start steps answers now → Sound next now.tables }
 {}
 
 /// Each order that was answered to a command stands in the tables from then on, and each later answer to the same command is
 /// that order.
 pub fn orders_stand()
-    ensures { (next : List ℕ → ℕ → ℕ) → StaysBelow next → (start now : World) (steps : List Step) (answers : List (Option Answer)) →
+    ensures { (next : List ℕ → ℕ → ℕ) → StaysBelow next →
+        (start now : World) (steps : List Step) (answers : List (Option Answer)) →
         Kept start.tables → Run next start steps answers now → OrdersStand steps answers now.tables }
 {}
 
@@ -117,9 +99,12 @@ pub fn tokens_take_effect_once()
 /// value, and of no other count up to its own one, nor up to 4,095. So where the device takes the order's count and value, its
 /// search finds these.
 pub fn orders_are_found()
-    ensures only { (next : List ℕ → ℕ → ℕ) (tables : Tables) (row : Row) (order : Order) (config : Config) (count value : ℕ) →
-        Sound next tables → HasOrder tables row order → IsMatched row config → count ≤ max LAST order.count → value < 1000 →
-        token_at (next config.key) config.start value count ≡ order.token → (count ≡ order.count) × (value ≡ order.value) }
+    ensures only { (next : List ℕ → ℕ → ℕ) (tables : Tables) (row : Row) (order : Order) (config : Config)
+        (count value : ℕ) →
+        Sound next tables → HasOrder tables row order → IsMatched row config → count ≤ max LAST order.count →
+        value < 1000 →
+        token_at (next config.key) config.start value count ≡ order.token →
+        (count ≡ order.count) × (value ≡ order.value) }
     ensures found { (next : List ℕ → ℕ → ℕ) (tables : Tables) (row : Row) (order : Order) (history : History) →
         Sound next tables → HasOrder tables row order → IsMatched row history.config →
         Valid history.start history.entries order.count order.value →
@@ -130,7 +115,8 @@ pub fn orders_are_found()
 /// A token that may be used is accepted where it is typed: the device has no other choice than that its flash fails, or is
 /// worn.
 pub fn usable_tokens_are_taken()
-    ensures { (next : List ℕ → ℕ → ℕ) (start now : World) (answers : List (Option Answer)) (history : History) (order : Order) →
+    ensures { (next : List ℕ → ℕ → ℕ) (start now : World) (answers : List (Option Answer)) (history : History)
+        (order : Order) →
         Sound next start.tables → IsUp start.device history → IsUsable start.tables history order →
         Run next start (typing history.config.form order.token) answers now →
         IsTakenLast order.count history.at answers }
@@ -138,7 +124,8 @@ pub fn usable_tokens_are_taken()
 
 /// And so it is at each point of a run from sound tables.
 pub fn usable_tokens_are_taken_in_runs()
-    ensures { (next : List ℕ → ℕ → ℕ) → StaysBelow next → (start now : World) (steps : List Step) (answers : List (Option Answer)) →
+    ensures { (next : List ℕ → ℕ → ℕ) → StaysBelow next →
+        (start now : World) (steps : List Step) (answers : List (Option Answer)) →
         Sound next start.tables → UsablesTaken next start steps answers now }
 {}
 

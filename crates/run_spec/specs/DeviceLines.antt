@@ -16,11 +16,13 @@ divider_in word = option_and_then (λ n. if divides_day n then Some n else None)
 
 -- The value that a first word says, and then what is made of it and of what stands behind that word.
 abbrev pub field : {A B : Type 0} → (List ℕ → Option A) → List ℕ → (A → List ℕ → Option B) → Option B
-field read text next = option_and_then (λ parts. option_and_then (λ value. next value parts.1) (read parts.0)) (first_word text)
+field read text next =
+    option_and_then (λ parts. option_and_then (λ value. next value parts.1) (read parts.0)) (first_word text)
 
 -- The form that the last word of a configuration says: 9 or 15 digits.
 abbrev pub form_in : List ℕ → Option Form
-form_in word = if bytes_eq word (codes "9") then Some Nine else if bytes_eq word (codes "15") then Some Fifteen else None
+form_in word =
+    if bytes_eq word (codes "9") then Some Nine else if bytes_eq word (codes "15") then Some Fifteen else None
 
 -- `KEY START DIVIDER FORM`
 abbrev pub config_in : List ℕ → Option Config

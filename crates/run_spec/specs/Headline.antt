@@ -36,7 +36,8 @@ OrdersStand steps answers now =
     (i : ℕ) (command : Command) (order : Order) (form : Form) → slice_get steps i ≡ Some (Do command)
     → slice_get answers i ≡ Some (Some (Did (answer_is.Order order form)))
     → (order_of now order.id ≡ Some order)
-    × ((j : ℕ) → i < j → slice_get steps j ≡ Some (Do command) → slice_get answers j ≡ Some (Some (Did (answer_is.Order order form))))
+    × ((j : ℕ) → i < j → slice_get steps j ≡ Some (Do command)
+    → slice_get answers j ≡ Some (Some (Did (answer_is.Order order form))))
 
 -- How often a token took effect on a device since its history began.
 abbrev pub effects_in : (List ℕ → ℕ → ℕ) → History → ℕ → ℕ
@@ -50,7 +51,8 @@ pub record IsOnce (next : List ℕ → ℕ → ℕ) (history : History) (order :
 -- That holds of each order of a row that matches the device.
 abbrev pub TokensOnce : (List ℕ → ℕ → ℕ) → Tables → Stored → Type 0
 TokensOnce next tables stored =
-    (row : Row) (order : Order) (history : History) → HasOrder tables row order → stored ≡ Journal history → IsMatched row history.config
+    (row : Row) (order : Order) (history : History) → HasOrder tables row order → stored ≡ Journal history
+    → IsMatched row history.config
     → IsOnce next history order
 
 -- The device is on, and has this history.
@@ -89,7 +91,8 @@ IsTakenLast count at (None ∷ answers) = IsTakenLast count at answers
 IsTakenLast count at _ = ⊥
 
 -- A point of a run: what came before it, what stands there, and what comes behind it.
-pub record Point (next : List ℕ → ℕ → ℕ) (start : World) (steps : List Step) (answers : List (Option Answer)) (now : World) : Type 0 where
+pub record Point (next : List ℕ → ℕ → ℕ) (start : World) (steps : List Step) (answers : List (Option Answer))
+    (now : World) : Type 0 where
   pub done : List Step
   pub others : List Step
   pub steps_are : steps ≡ done ++ others
@@ -101,8 +104,9 @@ pub record Point (next : List ℕ → ℕ → ℕ) (start : World) (steps : List
   pub goes_on : Run next here others later now
 
 -- Wherever in the run a token that may be used is typed, it is accepted.
-abbrev pub UsablesTaken : (next : List ℕ → ℕ → ℕ) (start : World) (steps : List Step) (answers : List (Option Answer)) (now : World) → Type 0
+abbrev pub UsablesTaken : (List ℕ → ℕ → ℕ) → World → List Step → List (Option Answer) → World → Type 0
 UsablesTaken next start steps answers now =
     (point : Point next start steps answers now) (history : History) (order : Order) (rest : List Step)
-    → IsUp point.here.device history → IsUsable point.here.tables history order → point.others ≡ typing history.config.form order.token ++ rest
+    → IsUp point.here.device history → IsUsable point.here.tables history order
+    → point.others ≡ typing history.config.form order.token ++ rest
     → IsTakenLast order.count history.at (take (length (typing history.config.form order.token)) point.later)

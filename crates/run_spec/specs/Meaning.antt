@@ -19,7 +19,8 @@ trimmed line = if bytes_eq (drop (length line - 1) line) (13 ∷ []) then take (
 
 -- The steps of a line of a device: the events that it asks for, or a refusal where it has no form of such a line.
 abbrev pub steps_of_device_line : List ℕ → List Step
-steps_of_device_line line = unwrap_or (option_map (λ events. map Act events) (events_in line)) (Say (codes "unread") ∷ [])
+steps_of_device_line line =
+    unwrap_or (option_map (λ events. map Act events) (events_in line)) (Say (codes "unread") ∷ [])
 
 -- The one step of a line of the ledger: its command, or the text that refuses it.
 abbrev pub step_of_reading : Result Command TextFault → Step
@@ -47,7 +48,9 @@ steps_of_text mode (c ∷ cs) = if c == 123 then steps_of_ledger mode (c ∷ cs)
 
 -- The steps of a line: one answer for one above 4,096 bytes, and else those of its text.
 abbrev pub steps_of_line : Mode → List ℕ → List Step
-steps_of_line mode line = if nat_lt 4096 (length line) then Say (codes "long " ++ decimal (length line)) ∷ [] else steps_of_text mode (trimmed line)
+steps_of_line mode line =
+    if nat_lt 4096 (length line) then Say (codes "long " ++ decimal (length line))
+    ∷ [] else steps_of_text mode (trimmed line)
 
 -- The steps of these lines.
 abbrev pub steps_of : Mode → List (List ℕ) → List Step

@@ -45,7 +45,9 @@ pub record IsBefore (mode : Mode) (line : List ℕ) (lines : List (List ℕ)) (s
 -- The world is as it was, or where these steps are one command, the tables are those with its whole change.
 abbrev pub MayChange : (List ℕ → ℕ → ℕ) → List Step → World → World → Type 0
 MayChange next steps old new =
-    (new ≡ old) ⊎ ((command : Command) × (steps ≡ Do command ∷ []) × IsCommand command × (new ≡ record old { tables = (done next old.tables command).tables }))
+    (new ≡ old)
+    ⊎ ((command : Command) × (steps ≡ Do command ∷ []) × IsCommand command
+    × (new ≡ record old { tables = (done next old.tables command).tables }))
 
 -- Which steps were taken, by the status of the run and whether the source has told its end: those of all lines of the
 -- bytes taken at Ok, those of the whole lines at Read and Long, and at Write the first steps of the lines taken, up to the
@@ -53,12 +55,15 @@ MayChange next steps old new =
 -- whose command at Keep may have changed the tables, and else has not.
 abbrev pub EndsBy : (List ℕ → ℕ → ℕ) → Mode → Status → Bool → List ℕ → List Step → World → World → Type 0
 EndsBy next mode status.Ok ended taken steps reached now = (steps ≡ steps_of mode (all_lines taken)) × (now ≡ reached)
-EndsBy next mode status.Read ended taken steps reached now = (steps ≡ steps_of mode (whole_lines taken)) × (now ≡ reached)
-EndsBy next mode status.Long ended taken steps reached now = (steps ≡ steps_of mode (whole_lines taken)) × (now ≡ reached)
+EndsBy next mode status.Read ended taken steps reached now =
+    (steps ≡ steps_of mode (whole_lines taken)) × (now ≡ reached)
+EndsBy next mode status.Long ended taken steps reached now =
+    (steps ≡ steps_of mode (whole_lines taken)) × (now ≡ reached)
 EndsBy next mode status.Write ended taken steps reached now =
     ((others : List Step) × (steps_of mode (lines_taken ended taken) ≡ steps ++ others)) × (now ≡ reached)
 EndsBy next mode status.Keep ended taken steps reached now =
-    (line : List ℕ) × IsBefore mode line (lines_taken ended taken) steps × MayChange next (steps_of_line mode line) reached now
+    (line : List ℕ) × IsBefore mode line (lines_taken ended taken) steps
+    × MayChange next (steps_of_line mode line) reached now
 EndsBy next mode status.Memory ended taken steps reached now =
     ((line : List ℕ) × IsBefore mode line (lines_taken ended taken) steps) × (now ≡ reached)
 EndsBy next mode status.Usage ended taken steps reached now = ⊥

@@ -37,17 +37,23 @@ Serves next command answer old new =
 
 -- The step may be answered so, and the world goes on to new, where this says what a device may reply to an event and what
 -- it goes on to: a command leaves the device as it was, and an event the tables.
-abbrev pub MayAnswerBy : (Event → Option Reply → State → State → Type 0) → (List ℕ → ℕ → ℕ) → Step → Option Answer → World → World → Type 0
+abbrev pub MayAnswerBy : (Event → Option Reply → State → State → Type 0) → (List ℕ → ℕ → ℕ) → Step → Option Answer
+    → World → World → Type 0
 MayAnswerBy acts next (Say text) (Some (Said said)) old new = (said ≡ text) × (new ≡ old)
-MayAnswerBy acts next (Do command) (Some (Did answer)) old new = Serves next command answer old.tables new.tables × (new.device ≡ old.device)
-MayAnswerBy acts next (Act event) (Some (Told reply)) old new = (IsEvent event × acts event (Some reply) old.device new.device) × (new.tables ≡ old.tables)
-MayAnswerBy acts next (Act event) None old new = (IsEvent event × acts event None old.device new.device) × (new.tables ≡ old.tables)
+MayAnswerBy acts next (Do command) (Some (Did answer)) old new =
+    Serves next command answer old.tables new.tables × (new.device ≡ old.device)
+MayAnswerBy acts next (Act event) (Some (Told reply)) old new =
+    (IsEvent event × acts event (Some reply) old.device new.device) × (new.tables ≡ old.tables)
+MayAnswerBy acts next (Act event) None old new =
+    (IsEvent event × acts event None old.device new.device) × (new.tables ≡ old.tables)
 MayAnswerBy acts next _ _ old new = ⊥
 
 -- These steps may have these answers, one after another.
-abbrev pub RunBy : (Event → Option Reply → State → State → Type 0) → (List ℕ → ℕ → ℕ) → World → List Step → List (Option Answer) → World → Type 0
+abbrev pub RunBy : (Event → Option Reply → State → State → Type 0) → (List ℕ → ℕ → ℕ) → World → List Step
+    → List (Option Answer) → World → Type 0
 RunBy acts next old [] [] new = new ≡ old
-RunBy acts next old (step ∷ steps) (answer ∷ answers) new = (mid : World) × MayAnswerBy acts next step answer old mid × RunBy acts next mid steps answers new
+RunBy acts next old (step ∷ steps) (answer ∷ answers) new =
+    (mid : World) × MayAnswerBy acts next step answer old mid × RunBy acts next mid steps answers new
 RunBy acts next old _ _ new = ⊥
 
 -- The same of the device's machine.

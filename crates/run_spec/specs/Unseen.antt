@@ -17,7 +17,8 @@ pub record IsOnUnmade (state : State) : Type 0 where
 -- made on it, and then it is off.
 abbrev pub Finds : Event → Option Reply → State → State → Type 0
 Finds Power reply old new = (reply ≡ Some (reply_to_power new.stored)) × Goes true no_keys old new
-Finds (Make config) (Some (reply_is.Damaged word)) old new = IsOnUnmade old × (new.stored ≡ Broken word) × Goes true old.keys old new
+Finds (Make config) (Some (reply_is.Damaged word)) old new =
+    IsOnUnmade old × (new.stored ≡ Broken word) × Goes true old.keys old new
 Finds (Make config) (Some (reply_is.Made number)) old new = IsOnUnmade old × Goes false old.keys old new
 Finds _ _ old new = ⊥
 

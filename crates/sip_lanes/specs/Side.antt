@@ -16,11 +16,17 @@ pairs f xs ys =
 
 -- The keys of the four lanes.
 abbrev pub key_lanes : List (List ℕ) → List (List ℕ)
-key_lanes keys = slice_index_or keys 0 [] ∷ slice_index_or keys 1 [] ∷ slice_index_or keys 2 [] ∷ slice_index_or keys 3 [] ∷ []
+key_lanes keys =
+    slice_index_or keys 0 [] ∷ slice_index_or keys 1 [] ∷ slice_index_or keys 2 [] ∷ slice_index_or keys 3 [] ∷ []
 
 -- The state of one lane.
 abbrev pub state_at : Four → ℕ → SipState
-state_at four i = record { v0 = slice_index four.v0 i; v1 = slice_index four.v1 i; v2 = slice_index four.v2 i; v3 = slice_index four.v3 i }
+state_at four i = record {
+  v0 = slice_index four.v0 i;
+  v1 = slice_index four.v1 i;
+  v2 = slice_index four.v2 i;
+  v3 = slice_index four.v3 i;
+}
 
 -- The four states.
 abbrev pub states : Four → List SipState

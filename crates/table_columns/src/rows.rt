@@ -1,11 +1,10 @@
 // Rows of devices.
 ghost use Rattle.std.specs.Prelude.{◌≡◌, ◌≤◌, ◌<◌, ◌*◌, ◌^◌, ◌↔◌, true, IsTrue, IfSome, IfOk, All};
-ghost use Rattle.paygo_spec.specs.Clock.{divides_day};
 ghost use Rattle.ledger_spec.specs.Tables.{RowIsInRange, is_limit};
 
 use crate::columns::{key, name, number, number8, number16, number32};
 use ledger_spec::{KeeperFault, Row};
-use paygo_spec::{Form, GREAT, LAST};
+use paygo_spec::{Form, GREAT, LAST, is_divider};
 use sqlite::Row as Columns;
 use std::alloc::Global;
 
@@ -54,16 +53,9 @@ fn is_in_range(row: &Row) -> bool
 {
     row.serial.bytes().len() <= 16
         && row.start < 1_000_000_000
-        && is_divider(row.divider)
+        && is_divider(u64::from(row.divider))
         && are_prices(row)
         && are_counts(row)
-}
-
-// Whether a day has a whole number of seconds for so many units.
-fn is_divider(n: u8) -> bool
-    ensures { result ≡ divides_day n }
-{
-    n > 0 && 86_400 % u32::from(n) == 0
 }
 
 // Whether both prices and what is left over are in range.

@@ -12,5 +12,5 @@ use Rattle.token_decode.proofs.Answers.{snapshot_answers}
 pub snapshot_typed : (next : ℕ → ℕ) (unit start : ℕ) (form : Form) (origin : Summary) (entries : List Entry) (digits : List ℕ)
     → typed next start unit form (snapshot unit origin entries) [] digits ≡ typed next start unit form origin entries digits
 snapshot_typed next unit start form origin entries digits =
-    ap (λ (answer : Found). by_length form digits unit (clock_of unit origin entries) answer)
+    ap (λ (answer : Found). by_length form digits (clock_of unit origin entries) answer)
     (snapshot_answers next unit start origin entries (token_in form digits))

@@ -35,4 +35,5 @@ IsKeptOrNot table old new = (new ≡ old) ⊎ (new ≡ table ∷ take 7 old)
 -- Each list that is kept has the tokens of its key.
 abbrev pub AreTables : (List ℕ → ℕ → ℕ) → List (TableKey × Vec ℕ Global) → Type 0
 AreTables next entries =
-    (entry : TableKey × Vec ℕ Global) → Contains entries entry → entry.1.items ≡ tokens_from (next entry.0.key) entry.0.code entry.0.counts
+    (entry : TableKey × Vec ℕ Global) → Contains entries entry
+    → entry.1.items ≡ tokens_from (next entry.0.key) entry.0.code entry.0.counts

@@ -20,5 +20,5 @@ loop-done-preserved g c =
     record {
       within = omega (arith, takes.bound, length-take (length c.args.bytes.now - c.loop-done.done) (drop c.loop-done.done c.args.bytes.now), length-drop c.loop-done.done c.args.bytes.now);
       written = takes.written ∙ ap (λ known. append_known known (take c.in-Ok.n (take (length c.args.bytes.now - c.loop-done.done) (drop c.loop-done.done c.args.bytes.now)))) inv.written ∙ appended _ _ _ _ (next_part c.args.bytes.now c.loop-done.done c.in-Ok.n);
-      later = omega (arith, takes.later, inv.later);
+      faults = takes.faults ∙ inv.faults;
     }

@@ -6,7 +6,7 @@ abbrev pub invariant-loop-done : goal.invariant-loop-done
 invariant-loop-done g l = record {
   within : l.done ≤ length l.bytes;
   written : (g.K.Sink.view l.sink).written ≡ append_known (g.K.Sink.view l.fn.sink).written (take l.done l.bytes);
-  later : (g.K.Sink.view l.fn.sink).faults ≤ (g.K.Sink.view l.sink).faults;
+  faults : (g.K.Sink.view l.sink).faults ≡ (g.K.Sink.view l.fn.sink).faults;
 }
 
 abbrev pub decreases-loop-done : goal.decreases-loop-done

@@ -1,6 +1,6 @@
 use Rattle.std.proofs.Common.{refl}
 use Rattle.paygo_spec.specs.Machine.{Blank, Broken}
-use Rattle.device_core.proofs.Stands.{history_from}
+use Rattle.device_core.proofs.Stands.{has_history}
 use Rattle.device_core.proofs.power.greeting.Goals as goal
 
 pub returns-in-Off-clause-fits : goal.returns-in-Off-clause-fits
@@ -13,4 +13,4 @@ pub returns-in-Damaged-clause-fits : goal.returns-in-Damaged-clause-fits
 returns-in-Damaged-clause-fits c = rw c.in-Damaged.is (Broken c.in-Damaged.place, refl)
 
 pub returns-in-Up-clause-fits : goal.returns-in-Up-clause-fits
-returns-in-Up-clause-fits c = rw c.in-Up.is (history_from c.in-Up.journal c.summary-summary.ensures.rule)
+returns-in-Up-clause-fits c = rw c.in-Up.is (has_history c.in-Up.journal c.summary-summary.ensures.rule)

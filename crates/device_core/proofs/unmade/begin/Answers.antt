@@ -9,8 +9,7 @@ returns-in-Err-Damaged g c =
       record {
         untold = other_damaged _ c.in-Err-Damaged.place c.requires.unmade said.found;
         words = said.calls.1;
-        up = said.calls.0.up;
-        later = said.calls.0.later;
+        calls = said.calls.0;
       },
     )
 
@@ -20,6 +19,5 @@ returns-in-Err-Made g c =
     record {
       untold = other_made _ c.in-Err-Made.number c.requires.unmade said.found;
       words = said.calls.1;
-      up = said.calls.0.up;
-      later = said.calls.0.later;
+      calls = said.calls.0;
     }

@@ -1,7 +1,7 @@
 use Rattle.std.proofs.Common.{refl, ap, ◌∙◌}
 use Rattle.run_spec.specs.Run.{beginning}
 use Rattle.bench_run.specs.Bench.{desk}
-use Rattle.line_loop.proofs.Turning.{parts}
+use Rattle.line_loop.specs.Turn.{parts}
 use Rattle.line_loop.proofs.Going.{begins, begins_seen, begins_unseen, keeps_going, nearer, ends, off_holds}
 use Rattle.line_loop.proofs.running.run_lines.Goals as goal
 
@@ -28,12 +28,11 @@ turns-preserved g c =
     let old = parts c.turns.lines (g.S.Source.view c.turns.source) (desk c.turns.bench (g.D.Keeper.view c.turns.keeper) (g.F.Flash.view c.turns.flash) (g.K.Sink.view c.turns.sink)) in
     let new = parts c.turn.new.lines (g.S.Source.view c.turn.new.source) (desk c.turn.new.bench (g.D.Keeper.view c.turn.new.keeper) (g.F.Flash.view c.turn.new.flash) (g.K.Sink.view c.turn.new.sink)) in
     let turned = c.in-None.ensures.turned in
-    let later = c.turn.ensures.later in
     record {
       holds = c.turn.ensures.holds;
       keeper = λ is. c.turn.ensures.keeper is ∙ c.turns.invariant.keeper is;
       flash = λ is. c.turn.ensures.flash is ∙ c.turns.invariant.flash is;
-      going = keeps_going g.M.Mixer.next c.args.mode first old new c.turns.invariant.going turned.came turned.counts later.0 later.1 later.2 turned.turns;
+      going = keeps_going g.M.Mixer.next c.args.mode first old new c.turns.invariant.going turned.came turned.counts c.in-None.ensures.causes turned.turns;
     }
 
 pub returns-in-Some : goal.returns-in-Some
@@ -41,14 +40,12 @@ returns-in-Some g c =
     let first = parts c.new-lines.result (g.S.Source.view c.args.source.now) (desk c.start-bench.result (g.D.Keeper.view c.args.keeper.now) (g.F.Flash.view c.args.flash.now) (g.K.Sink.view c.args.sink.now)) in
     let old = parts c.turns.lines (g.S.Source.view c.turns.source) (desk c.turns.bench (g.D.Keeper.view c.turns.keeper) (g.F.Flash.view c.turns.flash) (g.K.Sink.view c.turns.sink)) in
     let new = parts c.turn.new.lines (g.S.Source.view c.turn.new.source) (desk c.turn.new.bench (g.D.Keeper.view c.turn.new.keeper) (g.F.Flash.view c.turn.new.flash) (g.K.Sink.view c.turn.new.sink)) in
-    let later = c.turn.ensures.later in
-    let promised = ends g.M.Mixer.next c.args.mode first old new c.in-Some.status c.turns.invariant.going c.in-Some.ensures.turned later.0 later.1 later.2 g.met.M.Mixer.below
+    let promised = ends g.M.Mixer.next c.args.mode first old new c.in-Some.status c.turns.invariant.going c.in-Some.ensures.turned c.in-Some.ensures.causes g.met.M.Mixer.below
     (λ is. ap g.F.Flash.view (c.turn.ensures.flash is ∙ c.turns.invariant.flash is)) in
     record {
       usage = promised.usage;
       keeper = λ is. (c.turn.ensures.keeper is ∙ c.turns.invariant.keeper is, (promised.device is).0, (promised.device is).1);
       flash = λ is. c.turn.ensures.flash is ∙ c.turns.invariant.flash is;
-      later = promised.later;
       ended = promised.told;
       causes = promised.causes;
       long = promised.long;

@@ -2,7 +2,7 @@ use Rattle.std.proofs.Common.{◌≡◌, ◌+◌, ◌-◌, length}
 use Rattle.run_spec.specs.declared.Mode.TheVariants as mode
 use Rattle.device_core.specs.Memory.{Holds}
 use Rattle.bench_run.specs.Bench.{desk}
-use Rattle.line_loop.proofs.Turning.{parts}
+use Rattle.line_loop.specs.Turn.{parts}
 use Rattle.line_loop.proofs.Going.{Going}
 use Rattle.line_loop.proofs.running.run_lines.Given as goal
 

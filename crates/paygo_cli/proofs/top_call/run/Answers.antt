@@ -21,7 +21,7 @@ returns-in-Some-Audit-clause-complete g c =
     let source = g.S.Source.view c.args.source.now in
     let flash = g.F.Flash.view c.args.flash.now in
     complete c.run_audit.result (outside source (g.K.Sink.view c.args.sink.now) (g.D.Keeper.view c.args.keeper.now) flash) (outside source (g.K.Sink.view c.run_audit.new.sink) (g.D.Keeper.view c.run_audit.new.keeper) flash)
-    (c.run_audit.ensures.causes source source flash flash)
+    (c.run_audit.ensures.causes source flash)
 
 pub returns-in-Some-Fleet-clause-complete : goal.returns-in-Some-Fleet-clause-complete
 returns-in-Some-Fleet-clause-complete g c =
@@ -29,4 +29,11 @@ returns-in-Some-Fleet-clause-complete g c =
     let keeper = g.D.Keeper.view c.args.keeper.now in
     let flash = g.F.Flash.view c.args.flash.now in
     complete c.run_simulation.result (outside source (g.K.Sink.view c.args.sink.now) keeper flash) (outside source (g.K.Sink.view c.run_simulation.new.sink) keeper flash)
-    (c.run_simulation.ensures.causes source source keeper keeper flash flash)
+    (c.run_simulation.ensures.causes source keeper flash)
+
+pub returns-in-Some-Audit-clause-causes : goal.returns-in-Some-Audit-clause-causes
+returns-in-Some-Audit-clause-causes g c = c.run_audit.ensures.causes (g.S.Source.view c.args.source.now) (g.F.Flash.view c.args.flash.now)
+
+pub returns-in-Some-Fleet-clause-causes : goal.returns-in-Some-Fleet-clause-causes
+returns-in-Some-Fleet-clause-causes g c =
+    c.run_simulation.ensures.causes (g.S.Source.view c.args.source.now) (g.D.Keeper.view c.args.keeper.now) (g.F.Flash.view c.args.flash.now)

@@ -12,16 +12,11 @@ invariant_of-self-2 c = record { whole = words_kept _ _ _ _ c.args.self.now.whol
 pub returns-in-Some-clause-fault : goal.returns-in-Some-clause-fault
 returns-in-Some-clause-fault c = λ up. record {
   words = torn_bank _ _ _ _ c.args.self.now.whole c.requires c.in-Some.ensures.bits c.keep_bits.ensures;
-  up = refl;
-  due = search rules;
-  later = search rules;
-  rose = search rules;
+  call = record { down = refl; due = search rules; rose = search rules };
 }
 
 pub returns-clause-ok : goal.returns-clause-ok
 returns-clause-ok c = record {
   words = ap Some (erased_is _ _ _ c.args.self.now.whole c.requires c.keep_bits-2.ensures);
-  up = search rules;
-  due = search rules;
-  later = search rules;
+  call = record { up = search rules; due = search rules; faults = search rules };
 }

@@ -9,8 +9,5 @@ invariant_of-self c = record { whole = words_set _ _ _ c.args.self.now.whole (or
 pub returns-in-Some-clause-fault : goal.returns-in-Some-clause-fault
 returns-in-Some-clause-fault c = λ up. record {
   words = (_, or_lt 64 _ _ c.ranges.word.fits c.in-Some.ensures.bits, kept_ones _ _, refl);
-  up = refl;
-  due = search rules;
-  later = search rules;
-  rose = search rules;
+  call = record { down = refl; due = search rules; rose = search rules };
 }

@@ -17,5 +17,5 @@ returns-then-not-is_empty-clause-ok c = record {
   taken = search rules;
   ended = search rules;
   nothing = λ none some. drop_all (c.args.self.now.at + c.min-n.result) c.args.self.now.bytes.items (omega (arith, c.len.ensures, c.min.ensures, c.min-n.ensures, c.args.self.now.gives));
-  later = search rules;
+  faults = search rules;
 }
