@@ -8,7 +8,7 @@ ghost use Rattle.bank_journal.specs.Summary.{summary_of};
 
 use crate::journal::LAST_BANK;
 use crate::summary::Summary;
-use paygo_outside::BANK;
+use paygo_ports::BANK;
 use paygo_spec::{Config, Form, GREAT};
 use word_rail::{paired, unrail};
 

@@ -1,7 +1,7 @@
 // A journal in memory.
 use crate::reading::ENTRIES;
 use crate::summary::Summary;
-use paygo_outside::BANK;
+use paygo_ports::BANK;
 use paygo_spec::{Config, Form};
 use std::marker::Model;
 use thiserror::Error;

@@ -19,7 +19,7 @@ use crate::summary::{Summary, unit_of};
 use crate::words::read_word;
 use count_window::Window;
 use paid_clock::Clock;
-use paygo_outside::{BANK, Flash};
+use paygo_ports::{BANK, Flash};
 use paygo_spec::{Config, Form, GREAT, LAST, MOST_LEFT, is_divider};
 use word_rail::unrail;
 

@@ -6,7 +6,7 @@ ghost use Rattle.paygo_spec.specs.Rail.{railed};
 ghost use Rattle.bank_journal.specs.Begin.{CallsBy};
 
 use crate::journal::JournalFault;
-use paygo_outside::Flash;
+use paygo_ports::Flash;
 use word_rail::rail;
 
 /// The word at a place from 0 to 1,023. It takes 1 call of the flash.

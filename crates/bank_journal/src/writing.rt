@@ -16,7 +16,7 @@ use crate::head::{HEAD, head_number, header_of, newest, number};
 use crate::journal::{Journal, JournalFault, LAST_BANK};
 use crate::summary::{Summary, number_of, unit_of};
 use crate::words::{erase_bank, read_word, write_number};
-use paygo_outside::{BANK, Flash};
+use paygo_ports::{BANK, Flash};
 use paygo_spec::{Config, Entry};
 
 /// The number of the first bank of a new device.

@@ -1,17 +1,16 @@
 -- One step is answered, and its answer written.
-use Rattle.std.proofs.Common.{◌≡◌, ◌≢◌, ◌⊎◌, inl, inr, ⊎_elim, ℕ, ◌<◌, ◌≤◌, true, false, List, [], ◌∷◌, ◌++◌, length, take, Option, Some, None, Ok, Err, Result, refl, sym, ap, ◌∙◌, arith, append-nil, get_or}
+use Rattle.std.proofs.Common.{◌≡◌, ◌≢◌, ◌⊎◌, inl, inr, ⊎_elim, ℕ, ◌-◌, ◌<◌, ◌≤◌, true, false, List, [], ◌∷◌, ◌++◌, length, take, Option, Some, None, Ok, Err, Result, refl, sym, ap, ◌∙◌, arith, append-nil, get_or}
 use Rattle.std.specs.Prelude.{◌==◌, codes, map, nat_lt, unwrap_or}
 use Rattle.std.proofs.lemmas.Bool.Decides.{nat_tests}
 use Rattle.std.proofs.lemmas.List.{nil_from_length}
-use Rattle.std.specs.Io.KnownBytes.{append_known}
 use Rattle.std.specs.Option.{option_map}
 use Rattle.paygo_spec.specs.declared.Event.{Event}
 use Rattle.paygo_spec.specs.declared.Event.TheVariants.{Key}
 use Rattle.paygo_spec.specs.declared.Reply.{Reply}
 use Rattle.paygo_spec.specs.declared.Reply.TheVariants.{Down}
-use Rattle.paygo_spec.specs.Flash.{FlashView}
+use Rattle.paygo_spec.specs.Flash.{FlashView, DueAfter, PlanFrom, KeepsPlan}
 use Rattle.paygo_spec.specs.Streams.{SinkView}
-use Rattle.paygo_spec.specs.Machine.{State, IsEvent, Acts, FaultsBy}
+use Rattle.paygo_spec.specs.Machine.{State, IsEvent, Acts, FaultsBy, calls_of}
 use Rattle.ledger_spec.specs.declared.Answer.{Answer as LedgerAnswer}
 use Rattle.ledger_spec.specs.declared.Command.{Command}
 use Rattle.ledger_spec.specs.declared.LedgerFault.TheVariants as ledger_fault
@@ -28,13 +27,13 @@ use Rattle.run_spec.specs.DeviceLines.{events_in, presses}
 use Rattle.run_spec.specs.Run.{Step, Say, Do, Act, Answer, Said, Did, Told, World, MayAnswerBy}
 use Rattle.run_spec.specs.Unseen.{ActsUnseen}
 use Rattle.run_spec.specs.Meaning.{trimmed, is_ledger_text, steps_of_ledger, steps_of_device, steps_of_device_line, steps_of_text, steps_of_line, step_of_reading}
-use Rattle.run_spec.specs.Ran.{uses_keeper, uses_flash}
+use Rattle.run_spec.specs.Ran.{DueBy, MayFall, calls_of_step, uses_keeper, uses_flash}
 use Rattle.run_spec.specs.Text.{line_of, text}
 use Rattle.device_core.specs.declared.device.Device.{Device}
-use Rattle.device_core.specs.Memory.{Agrees, Recalls, IsDown, Does, Remembers}
-use Rattle.paygo_outside.specs.declared.sink.WriteFault.{WriteFault}
+use Rattle.device_core.specs.Memory.{Agrees, Recalls, IsDown, Does, Costs, CostsAsSaid, Remembers}
+use Rattle.paygo_ports.specs.declared.sink.WriteFault.{WriteFault}
 use Rattle.bench_run.specs.declared.bench.LineFault.TheVariants as fault
-use Rattle.bench_run.specs.Bench.{Desk, desk, IsAt, Ends, WorksBy, Works, DeviceWorks, Says, Wrote, of_line}
+use Rattle.bench_run.specs.Bench.{Desk, desk, IsAt, Ends, WorksBy, Works, DeviceWorks, Says, Wrote, unsaid, of_line}
 use Rattle.bench_run.proofs.Unseen.{remembered}
 
 -- an answer that has no text is written whole
@@ -53,25 +52,48 @@ either_way : (does : Tables → LedgerDone) (old new : Option Tables) (tables : 
 either_way does old new tables is (inl same) = inl (same ∙ is)
 either_way does old new tables is (inr whole) = inr (whole ∙ ap (option_map (λ (t : Tables). (does t).tables)) is)
 
-module _ (acts : Event → Option Reply → State → State → Type 0) (stands : Device → FlashView → State → Type 0) (next : List ℕ → ℕ → ℕ) where
+-- no call leaves the due
+due_stays : (due : Option (Option ℕ)) → DueAfter 0 due due
+due_stays None = refl
+due_stays (Some None) = refl
+due_stays (Some (Some due)) = (omega arith, ap (λ n. Some (Some n)) (no_less due))
+  where
+    no_less : (n : ℕ) → n ≡ n - 0
+    no_less n = omega arith
+
+-- the calls of an event
+may_fall : (due : Option (Option ℕ)) (was now : FlashView) → PlanFrom due was now → MayFall due now.due
+may_fall None was now plan = plan.0
+may_fall (Some None) was now plan = plan.0
+may_fall (Some (Some due)) was now (inl ahead) = inr (ahead.left, ahead.most, ahead.due_is)
+may_fall (Some (Some due)) was now (inr come) = inl come.due_is
+
+due_by : (calls : Option ℕ) (reply : Option Reply) (was now : FlashView) → KeepsPlan was now → Costs calls reply was now → DueBy calls (option_map Told reply) was.due now.due
+due_by None reply was now plan costs = may_fall was.due was now plan
+due_by (Some calls) None was now plan costs = costs
+due_by (Some calls) (Some Down) was now plan costs = costs
+due_by (Some calls) (Some _) was now plan costs = costs
+
+module _ (acts : Event → Option Reply → State → State → Type 0) (stands : Device → FlashView → State → Type 0) (calls : State → Event → Option ℕ) (next : List ℕ → ℕ → ℕ) where
   -- one step, as it is answered and written
-  one : (mode : Mode) (step : Step) (answer : Option Answer) (result : Result (Unit {0}) WriteFault) (start mid : World) (before : List ℕ) (new : Desk) (old : SinkView)
-      → MayAnswerBy acts next step answer start mid → IsAt stands mode new mid → old.written ≡ Some before → Wrote (line_of answer) result old new.sink → Ends acts stands next mode (step ∷ []) (of_line result) start before new
-  one mode step answer (Ok done) start mid before new old may is_at written wrote = record {
+  one : (mode : Mode) (step : Step) (answer : Option Answer) (result : Result (Unit {0}) WriteFault) (start mid : World) (old new : Desk)
+      → MayAnswerBy acts next step answer start mid → DueBy (calls_of_step calls start step) answer old.flash.due new.flash.due → IsAt stands mode new mid → Wrote (line_of answer) result old.sink new.sink
+      → Ends acts stands calls next mode (step ∷ []) (of_line result) start old new
+  one mode step answer (Ok done) start mid old new may due is_at wrote = record {
     answers = answer ∷ [];
     now = mid;
-    run = (mid, may, refl);
+    run = (mid, new.flash.due, may, due, (refl, refl));
     is_at = is_at;
-    written = wrote ∙ ap (λ known. append_known known (line_of answer)) written ∙ ap (λ l. Some (before ++ l)) (sym (append-nil (line_of answer)));
+    written = wrote ∙ ap (λ l. old.sink.written ++ l) (sym (append-nil (line_of answer)));
   }
-  one mode step None (Err broken) start mid before new old may is_at written wrote = absurd (no_cut wrote.0 wrote.1)
-  one mode step (Some answer) (Err broken) start mid before new old may is_at written wrote = record {
+  one mode step None (Err broken) start mid old new may due is_at wrote = absurd (no_cut wrote.0 wrote.1)
+  one mode step (Some answer) (Err broken) start mid old new may due is_at wrote = record {
     front = step ∷ [];
     others = [];
     split = refl;
     answers = Some answer ∷ [];
     now = mid;
-    run = (mid, may, refl);
+    run = (mid, new.flash.due, may, due, (refl, refl));
     is_at = is_at;
     cut = record {
       earlier = [];
@@ -79,7 +101,7 @@ module _ (acts : Event → Option Reply → State → State → Type 0) (stands 
       answers_are = refl;
       more = wrote.0;
       cut = wrote.1;
-      written = wrote.2 ∙ ap (λ known. append_known known (take wrote.0 (line_of (Some answer)))) written;
+      written = wrote.2;
     };
   }
 
@@ -90,111 +112,119 @@ module _ (acts : Event → Option Reply → State → State → Type 0) (stands 
   happens event (Some reply) old new is acts = ((is, acts), refl)
 
   told_by : (mode : Mode) (keeper : KeeperView) (event : Event) (reply : Option Reply) (result : Result (Unit {0}) WriteFault) (old new : Device) (was now : FlashView) (before after : SinkView) → uses_flash mode ≡ true → IsEvent event
-      → ((state : State) → stands old was state → (after : State) × acts event reply state after × stands new now after) → Wrote (line_of (option_map Told reply)) result before after
-      → WorksBy acts stands next mode (Act event ∷ []) (of_line result) (desk old keeper was before) (desk new keeper now after)
-  told_by mode keeper event reply result old new was now before after uses is does wrote start text is_at written =
+      → ((state : State) → stands old was state → (after : State) × acts event reply state after × stands new now after)
+      → ((state : State) → stands old was state → DueBy (calls state event) (option_map Told reply) was.due now.due) → Wrote (line_of (option_map Told reply)) result before after
+      → WorksBy acts stands calls next mode (Act event ∷ []) (of_line result) (desk old keeper was before) (desk new keeper now after)
+  told_by mode keeper event reply result old new was now before after uses is does dues wrote start is_at =
       let did = does start.device (is_at.device uses) in
-      one mode (Act event) (option_map Told reply) result start (record start { device = did.0 }) text (desk new keeper now after) before
-      (happens event reply start did.0 is did.1) (record { tables = is_at.tables; device = λ uses. did.2 }) written wrote
+      one mode (Act event) (option_map Told reply) result start (record start { device = did.0 }) (desk old keeper was before) (desk new keeper now after)
+      (happens event reply start did.0 is did.1) (dues start.device (is_at.device uses)) (record { tables = is_at.tables; device = λ uses. did.2 }) wrote
 
   -- a text that is said
   said_by : (mode : Mode) (words : List ℕ) (result : Result (Unit {0}) WriteFault) (device : Device) (keeper : KeeperView) (flash : FlashView) (before after : SinkView) → Wrote (line_of (Some (Said words))) result before after
-      → WorksBy acts stands next mode (Say words ∷ []) (of_line result) (desk device keeper flash before) (desk device keeper flash after)
-  said_by mode words result device keeper flash before after wrote start text is_at written =
-      one mode (Say words) (Some (Said words)) result start start text (desk device keeper flash after) before (refl, refl) (record { tables = is_at.tables; device = is_at.device }) written wrote
+      → WorksBy acts stands calls next mode (Say words ∷ []) (of_line result) (desk device keeper flash before) (desk device keeper flash after)
+  said_by mode words result device keeper flash before after wrote start is_at =
+      one mode (Say words) (Some (Said words)) result start start (desk device keeper flash before) (desk device keeper flash after) (refl, refl) (due_stays flash.due) (record { tables = is_at.tables; device = is_at.device }) wrote
 
   -- a command that was answered
   served_by : (mode : Mode) (command : Command) (answer : LedgerAnswer) (result : Result (Unit {0}) WriteFault) (device : Device) (was now : KeeperView) (flash : FlashView) (before after : SinkView)
       → IsCommand command → uses_keeper mode ≡ true → Applies (λ t. done next t command) (Ok answer) was now → Wrote (line_of (Some (Did answer))) result before after
-      → WorksBy acts stands next mode (Do command ∷ []) (of_line result) (desk device was flash before) (desk device now flash after)
-  served_by mode command answer result device was now flash before after is uses applies wrote start text is_at written =
+      → WorksBy acts stands calls next mode (Do command ∷ []) (of_line result) (desk device was flash before) (desk device now flash after)
+  served_by mode command answer result device was now flash before after is uses applies wrote start is_at =
       let applied = applied_ok (λ t. done next t command) answer was.tables now.tables start.tables (is_at.tables uses) applies.tables in
-      one mode (Do command) (Some (Did answer)) result start (record start { tables = (done next start.tables command).tables }) text (desk device now flash after) before
-      ((is, applied.0, refl), refl) (record { tables = λ uses. applied.1; device = is_at.device }) written wrote
+      one mode (Do command) (Some (Did answer)) result start (record start { tables = (done next start.tables command).tables }) (desk device was flash before) (desk device now flash after)
+      ((is, applied.0, refl), refl) (due_stays flash.due) (record { tables = λ uses. applied.1; device = is_at.device }) wrote
 
   -- a command at which the keeper failed
   failed_by : (mode : Mode) (command : Command) (device : Device) (was now : KeeperView) (flash : FlashView) (sink : SinkView)
       → IsCommand command → uses_keeper mode ≡ true → Applies (λ t. done next t command) (Err ledger_fault.Keeper) was now
-      → WorksBy acts stands next mode (Do command ∷ []) (Err fault.Keep) (desk device was flash sink) (desk device now flash sink)
-  failed_by mode command device was now flash sink is uses applies start text is_at written =
+      → WorksBy acts stands calls next mode (Do command ∷ []) (Err fault.Keep) (desk device was flash sink) (desk device now flash sink)
+  failed_by mode command device was now flash sink is uses applies start is_at =
       ⊎_elim
       (λ (same : now.tables ≡ Some start.tables). record {
+        command = command;
+        asks = record { alone = refl; range = is };
         now = start;
         change = inl refl;
         is_at = record { tables = λ uses. same; device = is_at.device };
-        written = written;
+        written = refl;
+        due = refl;
       })
       (λ (whole : now.tables ≡ Some (done next start.tables command).tables). record {
+        command = command;
+        asks = record { alone = refl; range = is };
         now = record start { tables = (done next start.tables command).tables };
-        change = inr (command, refl, is, refl);
+        change = inr refl;
         is_at = record { tables = λ uses. whole; device = is_at.device };
-        written = written;
+        written = refl;
+        due = refl;
       })
       (either_way (λ t. done next t command) was.tables now.tables start.tables (is_at.tables uses) applies.tables)
 
   -- a command for which there was no memory
   refused_by : (mode : Mode) (command : Command) (device : Device) (was now : KeeperView) (flash : FlashView) (sink : SinkView) → Applies (λ t. done next t command) (Err ledger_fault.Memory) was now
-      → WorksBy acts stands next mode (Do command ∷ []) (Err fault.Memory) (desk device was flash sink) (desk device now flash sink)
-  refused_by mode command device was now flash sink applies start text is_at written =
-      record { is_at = record { tables = λ uses. applies.tables ∙ is_at.tables uses; device = is_at.device }; written = written }
+      → WorksBy acts stands calls next mode (Do command ∷ []) (Err fault.Memory) (desk device was flash sink) (desk device now flash sink)
+  refused_by mode command device was now flash sink applies start is_at =
+      record { is_at = record { tables = λ uses. applies.tables ∙ is_at.tables uses; device = is_at.device }; written = refl; due = refl }
 
   -- no memory to read a line
-  unread_by : (mode : Mode) (steps : List Step) (old : Desk) → WorksBy acts stands next mode steps (Err fault.Memory) old old
-  unread_by mode steps old start text is_at written = record { is_at = is_at; written = written }
+  unread_by : (mode : Mode) (steps : List Step) (old : Desk) → WorksBy acts stands calls next mode steps (Err fault.Memory) old old
+  unread_by mode steps old start is_at = record { is_at = is_at; written = refl; due = refl }
 
   -- nothing to do
-  nothing_by : (mode : Mode) (old : Desk) → WorksBy acts stands next mode [] (Ok tt) old old
-  nothing_by mode old start text is_at written = record {
+  nothing_by : (mode : Mode) (old : Desk) → WorksBy acts stands calls next mode [] (Ok tt) old old
+  nothing_by mode old start is_at = record {
     answers = [];
     now = start;
-    run = refl;
+    run = (refl, refl);
     is_at = is_at;
-    written = written ∙ ap Some (sym (append-nil text));
+    written = sym (append-nil old.sink.written);
   }
 
 module _ (next : List ℕ → ℕ → ℕ) where
   pub told : (event : Event) (reply : Option Reply) (result : Result (Unit {0}) WriteFault) (old new : Device) (was now : FlashView) (before after : SinkView)
-      → IsEvent event → Does next event old was reply new now → Remembers next event old was reply new now → FaultsBy reply was.faults now.faults → (reply ≡ Some Down → IsDown new)
+      → IsEvent event → Does next event old was reply new now → CostsAsSaid next event old was reply now → Remembers next event old was reply new now → FaultsBy reply was.faults now.faults → KeepsPlan was now → (reply ≡ Some Down → IsDown new)
       → Wrote (line_of (option_map Told reply)) result before after → DeviceWorks next (Act event ∷ []) result old was before new now after
-  told event reply result old new was now before after is does remembers counted down wrote mode keeper uses = record {
-    seen = told_by (Acts next) Agrees next mode keeper event reply result old new was now before after uses is does wrote;
-    unseen = told_by (ActsUnseen next) Recalls next mode keeper event reply result old new was now before after uses is (remembered next event old new was now reply remembers counted down) wrote;
+  told event reply result old new was now before after is does costs remembers counted plan down wrote mode keeper uses = record {
+    seen = told_by (Acts next) Agrees (calls_of next) next mode keeper event reply result old new was now before after uses is does
+        (λ state agrees. due_by (calls_of next state event) reply was now plan (costs state agrees)) wrote;
+    unseen = told_by (ActsUnseen next) Recalls unsaid next mode keeper event reply result old new was now before after uses is (remembered next event old new was now reply remembers counted down) (λ state recalls. may_fall was.due was now plan) wrote;
   }
 
   pub said : (words : List ℕ) (result : Result (Unit {0}) WriteFault) (before after : SinkView) → Wrote (line_of (Some (Said words))) result before after → Says next (Say words ∷ []) result before after
   said words result before after wrote mode device keeper flash = record {
-    seen = said_by (Acts next) Agrees next mode words result device keeper flash before after wrote;
-    unseen = said_by (ActsUnseen next) Recalls next mode words result device keeper flash before after wrote;
+    seen = said_by (Acts next) Agrees (calls_of next) next mode words result device keeper flash before after wrote;
+    unseen = said_by (ActsUnseen next) Recalls unsaid next mode words result device keeper flash before after wrote;
   }
 
   pub served : (mode : Mode) (command : Command) (answer : LedgerAnswer) (result : Result (Unit {0}) WriteFault) (device : Device) (was now : KeeperView) (flash : FlashView) (before after : SinkView)
       → IsCommand command → uses_keeper mode ≡ true → Applies (λ t. done next t command) (Ok answer) was now → Wrote (line_of (Some (Did answer))) result before after
       → Works next mode (Do command ∷ []) (of_line result) (desk device was flash before) (desk device now flash after)
   served mode command answer result device was now flash before after is uses applies wrote = record {
-    seen = served_by (Acts next) Agrees next mode command answer result device was now flash before after is uses applies wrote;
-    unseen = served_by (ActsUnseen next) Recalls next mode command answer result device was now flash before after is uses applies wrote;
+    seen = served_by (Acts next) Agrees (calls_of next) next mode command answer result device was now flash before after is uses applies wrote;
+    unseen = served_by (ActsUnseen next) Recalls unsaid next mode command answer result device was now flash before after is uses applies wrote;
   }
 
   pub failed : (mode : Mode) (command : Command) (device : Device) (was now : KeeperView) (flash : FlashView) (sink : SinkView)
       → IsCommand command → uses_keeper mode ≡ true → Applies (λ t. done next t command) (Err ledger_fault.Keeper) was now
       → Works next mode (Do command ∷ []) (Err fault.Keep) (desk device was flash sink) (desk device now flash sink)
   failed mode command device was now flash sink is uses applies = record {
-    seen = failed_by (Acts next) Agrees next mode command device was now flash sink is uses applies;
-    unseen = failed_by (ActsUnseen next) Recalls next mode command device was now flash sink is uses applies;
+    seen = failed_by (Acts next) Agrees (calls_of next) next mode command device was now flash sink is uses applies;
+    unseen = failed_by (ActsUnseen next) Recalls unsaid next mode command device was now flash sink is uses applies;
   }
 
   pub refused : (mode : Mode) (command : Command) (device : Device) (was now : KeeperView) (flash : FlashView) (sink : SinkView) → Applies (λ t. done next t command) (Err ledger_fault.Memory) was now
       → Works next mode (Do command ∷ []) (Err fault.Memory) (desk device was flash sink) (desk device now flash sink)
   refused mode command device was now flash sink applies = record {
-    seen = refused_by (Acts next) Agrees next mode command device was now flash sink applies;
-    unseen = refused_by (ActsUnseen next) Recalls next mode command device was now flash sink applies;
+    seen = refused_by (Acts next) Agrees (calls_of next) next mode command device was now flash sink applies;
+    unseen = refused_by (ActsUnseen next) Recalls unsaid next mode command device was now flash sink applies;
   }
 
   pub unread : (mode : Mode) (steps : List Step) (old : Desk) → Works next mode steps (Err fault.Memory) old old
-  unread mode steps old = record { seen = unread_by (Acts next) Agrees next mode steps old; unseen = unread_by (ActsUnseen next) Recalls next mode steps old }
+  unread mode steps old = record { seen = unread_by (Acts next) Agrees (calls_of next) next mode steps old; unseen = unread_by (ActsUnseen next) Recalls unsaid next mode steps old }
 
   pub nothing : (mode : Mode) (old : Desk) → Works next mode [] (Ok tt) old old
-  nothing mode old = record { seen = nothing_by (Acts next) Agrees next mode old; unseen = nothing_by (ActsUnseen next) Recalls next mode old }
+  nothing mode old = record { seen = nothing_by (Acts next) Agrees (calls_of next) next mode old; unseen = nothing_by (ActsUnseen next) Recalls unsaid next mode old }
 
   -- a space among keys presses none
   pub pressed_nothing : (key : ℕ) (device : Device) (flash : FlashView) (sink : SinkView) → key ≡ 32 → DeviceWorks next (map Act (presses (key ∷ []))) (Ok tt) device flash sink device flash sink

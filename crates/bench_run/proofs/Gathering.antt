@@ -1,11 +1,11 @@
 -- A line that is gathered out of one block after another.
-use Rattle.std.proofs.Common.{◌≡◌, ◌≢◌, ◌⊎◌, inl, inr, ℕ, suc, ◌+◌, ◌-◌, ◌≤◌, ◌<◌, ◌^◌, Bool, true, false, ◌==◌, nat_le, List, [], ◌∷◌, ◌++◌, length, take, drop, Option, Some, None, Ok, Err, refl, sym, ap, ◌∙◌, arith, append_assoc, append-nil, length-append, if◌then◌else◌, subst}
+use Rattle.std.proofs.Common.{◌≡◌, ◌≢◌, ◌⊎◌, inl, inr, ℕ, suc, ◌+◌, ◌-◌, ◌≤◌, ◌<◌, ◌^◌, Bool, true, false, ◌==◌, nat_le, List, [], ◌∷◌, ◌++◌, length, take, drop, Option, Some, None, Ok, Err, OnOk, refl, sym, ap, ◌∙◌, arith, append_assoc, append-nil, length-append, if◌then◌else◌, subst}
 use Rattle.std.proofs.lemmas.List.{take_all, nil_from_length, length-take}
 use Rattle.std.proofs.lemmas.Bool.{cases_lt, cases_eq}
 use Rattle.std.proofs.lemmas.Bool.Decides.{nat_tests}
 use Rattle.std.specs.Io.KnownBytes.{prepend_known}
 use Rattle.paygo_spec.specs.Streams.{SourceView}
-use Rattle.paygo_spec.specs.Faults.{raised, Rose}
+use Rattle.paygo_spec.specs.Faults.{Rose}
 use Rattle.run_spec.specs.Lines.{whole_lines}
 use Rattle.bench_run.specs.declared.lines.Next.TheVariants.{Line, Long, End}
 use Rattle.bench_run.specs.declared.lines.LinesFault.{LinesFault}
@@ -28,13 +28,15 @@ pub record Gathered (old self : LinesView) (was now : SourceView) (buffer : List
   pub fits : length old.held ≤ old.taken
   pub small : old.budget < 2 ^ 64
 
+-- no bytes that came
+pub nothing-more : (known : Option (List ℕ)) → known ≡ prepend_known [] known
+nothing-more None = refl
+nothing-more (Some xs) = refl
+
 -- two lots of bytes that came, one after the other
-prepend-append : (a b : List ℕ) (known : Option (List ℕ)) → prepend_known a (prepend_known b known) ≡ prepend_known (a ++ b) known
+pub prepend-append : (a b : List ℕ) (known : Option (List ℕ)) → prepend_known a (prepend_known b known) ≡ prepend_known (a ++ b) known
 prepend-append a b None = refl
 prepend-append a b (Some xs) = ap Some (sym (append_assoc a b xs))
-
-pub raised-raised : (count a b : ℕ) → raised (raised count a) b ≡ raised count (a + b)
-raised-raised count a b = omega arith
 
 unended_two : (a b : ℕ) (was now after : Bool) → (a ≢ 0 → now ≡ false) → (b ≢ 0 → after ≡ false) → (b ≡ 0 → after ≡ now) → a + b ≢ 0 → (b ≡ 0) ⊎ (b ≢ 0) → after ≡ false
 unended_two a b was now after first second same some (inl none) = same none ∙ first (λ z. some (omega (arith, none, z)))
@@ -42,9 +44,9 @@ unended_two a b was now after first second same some (inr more) = second more
 
 pub came_two : (a b : List ℕ) (old mid new : LinesView) (was now after : SourceView) → mid.ended ≡ false → Came a old mid was now → Came b mid new now after → Came (a ++ b) old new was after
 came_two a b old mid new was now after un first second = record {
+  given = second.given ∙ ap (λ l. l ++ b) first.given ∙ append_assoc was.given a b;
   left = first.left ∙ ap (prepend_known a) second.left ∙ prepend-append a b after.left;
   counted = omega (arith, first.counted, second.counted, length-append a b);
-  taken = second.taken ∙ ap (λ c. raised c (length b)) first.taken ∙ raised-raised was.taken (length a) (length b) ∙ ap (raised was.taken) (sym (length-append a b));
   budget = second.budget ∙ first.budget;
   most = second.most;
   unread = λ e. absurd (let both : true ≡ false = sym (first.once e) ∙ un in cc);
@@ -57,9 +59,9 @@ came_two a b old mid new was now after un first second = record {
 
 came_same : (a : List ℕ) (old self new : LinesView) (was now : SourceView) → new.budget ≡ self.budget → new.taken ≡ self.taken → new.ended ≡ self.ended → Came a old self was now → Came a old new was now
 came_same a old self new was now b t e came = record {
+  given = came.given;
   left = came.left;
   counted = t ∙ came.counted;
-  taken = came.taken;
   budget = b ∙ came.budget;
   most = omega (arith, b, t, came.most);
   unread = came.unread;
@@ -127,6 +129,7 @@ module _ (old self : LinesView) (was now : SourceView) (buffer : List ℕ) (size
             (none-append so_far.text piece.piece so_far.unended piece.unended, inl bytes) (le_or size' 4096 (cases_lt size' 4097));
         faults = reads_well was.faults now.faults size' so_far.faults;
         needed = so_far.needed;
+        ahead = piece.ahead;
       }
 
   -- at the end of the input
@@ -148,6 +151,7 @@ module _ (old self : LinesView) (was now : SourceView) (buffer : List ℕ) (size
     answer = ended_line none end (cases_eq size 0);
     faults = ends_well was.faults now.faults size so_far.faults;
     needed = so_far.needed;
+    ahead = omega (arith, ap length none);
   }
 
   -- all that was held is of the line, which has no end yet
@@ -185,6 +189,7 @@ module _ (old self : LinesView) (was now : SourceView) (buffer : List ℕ) (size
     answer = (no_line none [] refl, fills.2, fills.1);
     faults = subst (λ (n : ℕ). Rose n after.faults) so_far.faults fills.3;
     needed = inr (none_held none);
+    ahead = tt;
   }
   not_filled fault.Budget new after none un fills =
       subst (λ (v : SourceView). Hands (Err fault.Budget) buffer old new was v) (sym fills.0)
@@ -194,6 +199,7 @@ module _ (old self : LinesView) (was now : SourceView) (buffer : List ℕ) (size
         answer = (ap (λ l. whole_lines (old.held ++ l)) (sym (append-nil so_far.came)) ∙ no_line none [] refl, fills.2, un);
         faults = so_far.faults;
         needed = so_far.needed;
+        ahead = tt;
       })
 
 -- before the first piece
@@ -202,9 +208,9 @@ begun old was buffer fits most small = record {
   text = [];
   came = [];
   counts = record {
-    left = nothing was.left;
+    given = sym (append-nil was.given);
+    left = nothing-more was.left;
     counted = omega arith;
-    taken = omega arith;
     budget = refl;
     most = most;
     unread = λ e. refl;
@@ -222,10 +228,6 @@ begun old was buffer fits most small = record {
   fits = fits;
   small = small;
 }
-  where
-    nothing : (known : Option (List ℕ)) → known ≡ prepend_known [] known
-    nothing None = refl
-    nothing (Some xs) = refl
 
 -- the bytes gathered and held are no more than those taken
 pub gathered_fits : (old self : LinesView) (was now : SourceView) (buffer : List ℕ) (size : ℕ) → Gathered old self was now buffer size → size + length self.held < 2 ^ 64

@@ -22,11 +22,11 @@ module _ (block buffer buffer' : List ℕ) (start end budget taken before size :
   abbrev seen : ℕ → LinesView
   seen from = record { budget = budget; taken = taken; held = held_in from; ended = ended }
 
-  pub some_piece : (old : LinesView) (at : ℕ) → seen start ≡ old → position is_end (held_in start) ≡ Some at
+  pub some_piece : (old : LinesView) (at : ℕ) → end ≤ 8192 → seen start ≡ old → position is_end (held_in start) ≡ Some at
       → size ≡ before + length (take at (held_in start))
       → ((text : List ℕ) → IsFront buffer text before → IsFront buffer' (text ++ take at (held_in start)) size)
       → IsPiece size true before buffer buffer' old (seen (start + (at + 1)))
-  some_piece old at is e size_is front =
+  some_piece old at block_is is e size_is front =
       let f = position_found (held_in start) at e in
       let k_is : f.k ≡ at = omega (arith, f.at_is) in
       let inside : at < end - start = omega (arith, f.within, k_is, length-take (end - start) (drop start block)) in
@@ -39,6 +39,7 @@ module _ (block buffer buffer' : List ℕ) (start end budget taken before size :
         none = λ h. cc;
         size_is = size_is;
         front = front;
+        ahead = omega (arith, block_is, inside, length-take (end - (start + (at + 1))) (drop (start + (at + 1)) block));
         budget = refl;
         taken = refl;
         ended = refl;
@@ -56,6 +57,7 @@ module _ (block buffer buffer' : List ℕ) (start end budget taken before size :
         none = λ h. let n : end - end ≡ 0 = omega arith in ap (λ m. take m (drop end block)) n;
         size_is = size_is;
         front = front;
+        ahead = omega (arith, length-take (end - end) (drop end block));
         budget = refl;
         taken = refl;
         ended = refl;

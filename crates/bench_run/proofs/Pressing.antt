@@ -9,7 +9,7 @@ use Rattle.paygo_spec.specs.Words.{is_space}
 use Rattle.run_spec.specs.DeviceLines.{is_key_text, are_key_text, presses}
 use Rattle.run_spec.specs.Run.{Step, Act}
 use Rattle.device_core.specs.declared.device.Device.{Device}
-use Rattle.paygo_outside.specs.declared.sink.WriteFault.{WriteFault}
+use Rattle.paygo_ports.specs.declared.sink.WriteFault.{WriteFault}
 use Rattle.device_core.specs.Memory.{Holds}
 use Rattle.bench_run.specs.Bench.{desk, DeviceWorks, DeviceDid}
 use Rattle.paygo_spec.specs.Faults.{Counted}

@@ -1,5 +1,5 @@
 -- What a device does by what it has in memory, as a machine of a flash that isn't seen.
-use Rattle.std.proofs.Common.{◌≡◌, inl, inr, ℕ, Bool, true, false, List, Option, Some, None, refl, sym, ap, ◌∙◌, subst}
+use Rattle.std.proofs.Common.{◌≡◌, ◌⊎◌, inl, inr, ℕ, Bool, true, false, List, Option, Some, None, refl, sym, ap, ◌∙◌, subst}
 use Rattle.std.specs.Prelude.{IfSome, is_some}
 use Rattle.paygo_spec.specs.declared.Config.{Config}
 use Rattle.paygo_spec.specs.declared.Event.{Event}
@@ -13,7 +13,7 @@ use Rattle.paygo_spec.specs.Recovery as recovered
 use Rattle.paygo_spec.specs.Faults.{Rose}
 use Rattle.paygo_spec.specs.History.{fresh}
 use Rattle.paygo_spec.specs.Machine.{State, Stored, Blank, Broken, Journal, StandsAs, Acts, ActsIf, Replies, MayMake, GoesBy, Falls, FaultsBy, new_device, unit_for}
-use Rattle.run_spec.specs.Unseen.{ActsUnseen}
+use Rattle.run_spec.specs.Unseen.{Finds, IsLawful, ActsUnseen}
 use Rattle.journal_laws.specs.Journal.{new_journal}
 use Rattle.device_core.specs.declared.device.Device.{Device}
 use Rattle.device_core.specs.declared.device.Phase.{Phase}
@@ -39,9 +39,21 @@ unmade_is (Journal history) stands = absurd stands
 new_stands : (config : Config) → StandsAs (recovered.Made (new_journal config)) (Journal (new_device config))
 new_stands config = (refl, refl, sym (snapshot_start (unit_for (new_device config)) fresh fresh_keeps), fresh_keeps)
 
+-- what a device that is on has in memory is a history that a device can have
+fits_lawful : (found : Option Recovered) (stored : Stored) → is_some found ≡ true → IfSome found (λ found. StandsAs found stored) → IsLawful stored
+fits_lawful None stored on fits = cc
+fits_lawful (Some found) Blank on fits = tt
+fits_lawful (Some found) (Broken word) on fits = tt
+fits_lawful (Some recovered.Unmade) (Journal history) on fits = absurd fits
+fits_lawful (Some (recovered.Damaged word)) (Journal history) on fits = absurd fits
+fits_lawful (Some (recovered.Made journal)) (Journal history) on fits = fits.3
+
+recalls_lawful : (device : Device) (flash : FlashView) (state : State) → Recalls device flash state → state.on ≡ true → IsLawful state.stored
+recalls_lawful device flash state recalls on = fits_lawful (found_by device.phase) state.stored (sym recalls.on_is ∙ on) recalls.fits
+
 module _ (next : List ℕ → ℕ → ℕ) (old new : Device) (was now : FlashView) (state : State) (recalls : Recalls old was state) where
   abbrev Recalled : Event → Option Reply → Type 0
-  Recalled event reply = (after : State) × ActsUnseen next event reply state after × Recalls new now after
+  Recalled event reply = (after : State) × (Acts next event reply state after ⊎ Finds event reply state after) × Recalls new now after
 
   -- no fault was counted
   kept : now.faults ≡ was.faults → now.faults ≡ state.faults
@@ -135,4 +147,6 @@ module _ (next : List ℕ → ℕ → ℕ) (old new : Device) (was now : FlashVi
 
 pub remembered : (next : List ℕ → ℕ → ℕ) (event : Event) (old new : Device) (was now : FlashView) (reply : Option Reply) → Remembers next event old was reply new now → FaultsBy reply was.faults now.faults
     → (reply ≡ Some reply_is.Down → IsDown new) → (state : State) → Recalls old was state → (after : State) × ActsUnseen next event reply state after × Recalls new now after
-remembered next event old new was now reply remembers counted down state recalls = by_event next old new was now state recalls event reply remembers counted down
+remembered next event old new was now reply remembers counted down state recalls =
+    let did = by_event next old new was now state recalls event reply remembers counted down in
+    (did.0, (did.1, recalls_lawful new now did.0 did.2), did.2)

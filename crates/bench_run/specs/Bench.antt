@@ -1,22 +1,22 @@
 -- What a bench does with steps: they are answered one after the other, and each answer is written before the next step is
 -- taken.
-use Rattle.std.specs.Prelude.{◌≡◌, ◌<◌, ℕ, List, ◌++◌, length, take, true, Option, Some, Result, Ok, Err}
-use Rattle.std.specs.Io.KnownBytes.{append_known}
+use Rattle.std.specs.Prelude.{◌≡◌, ◌<◌, ℕ, List, ◌++◌, length, take, true, Option, Some, None, Result, Ok, Err}
 use Rattle.paygo_spec.specs.declared.Event.{Event}
 use Rattle.paygo_spec.specs.declared.Reply.{Reply}
 use Rattle.paygo_spec.specs.Faults.{Rose, Counted}
 use Rattle.paygo_spec.specs.Flash.{FlashView, KeepsPlan}
-use Rattle.paygo_spec.specs.Machine.{State, Acts}
+use Rattle.paygo_spec.specs.Machine.{State, Acts, calls_of}
 use Rattle.paygo_spec.specs.Streams.{SinkView}
+use Rattle.ledger_spec.specs.declared.Command.{Command}
 use Rattle.ledger_spec.specs.Keeper.{KeeperView}
 use Rattle.run_spec.specs.declared.Mode.{Mode}
-use Rattle.run_spec.specs.Run.{Step, Answer, World, RunBy}
+use Rattle.run_spec.specs.Run.{Step, Answer, World}
 use Rattle.run_spec.specs.Unseen.{ActsUnseen}
 use Rattle.run_spec.specs.Text.{text}
-use Rattle.run_spec.specs.Ran.{IsCut, MayChange, uses_keeper, uses_flash}
+use Rattle.run_spec.specs.Ran.{AsksFor, IsCut, MayChange, SpendsBy, uses_keeper, uses_flash}
 use Rattle.device_core.specs.declared.device.Device.{Device}
 use Rattle.device_core.specs.Memory.{Agrees, Recalls, Holds}
-use Rattle.paygo_outside.specs.declared.sink.WriteFault.{WriteFault}
+use Rattle.paygo_ports.specs.declared.sink.WriteFault.{WriteFault}
 use Rattle.bench_run.specs.declared.bench.LineFault.{LineFault}
 use Rattle.bench_run.specs.declared.bench.LineFault.TheVariants as fault
 
@@ -38,63 +38,73 @@ pub record IsAt (stands : Device → FlashView → State → Type 0) (mode : Mod
 
 -- These steps were answered, and the text of the answers was written whole. The desk stands for what the run went on to.
 pub record Done (acts : Event → Option Reply → State → State → Type 0) (stands : Device → FlashView → State → Type 0)
-    (next : List ℕ → ℕ → ℕ) (mode : Mode) (steps : List Step) (start : World) (before : List ℕ) (desk : Desk)
-    : Type 0 where
+    (calls : State → Event → Option ℕ) (next : List ℕ → ℕ → ℕ) (mode : Mode) (steps : List Step) (start : World)
+    (was desk : Desk) : Type 0 where
   pub answers : List (Option Answer)
   pub now : World
-  pub run : RunBy acts next start steps answers now
+  pub run : SpendsBy acts calls next start steps answers now was.flash.due desk.flash.due
   pub is_at : IsAt stands mode desk now
-  pub written : desk.sink.written ≡ Some (before ++ text answers)
+  pub written : desk.sink.written ≡ was.sink.written ++ text answers
 
 -- The sink failed at an answer: the first of these steps were taken, up to the one whose answer it was, and the others
 -- weren't.
 pub record Stopped (acts : Event → Option Reply → State → State → Type 0) (stands : Device → FlashView → State → Type 0)
-    (next : List ℕ → ℕ → ℕ) (mode : Mode) (steps : List Step) (start : World) (before : List ℕ) (desk : Desk)
-    : Type 0 where
+    (calls : State → Event → Option ℕ) (next : List ℕ → ℕ → ℕ) (mode : Mode) (steps : List Step) (start : World)
+    (was desk : Desk) : Type 0 where
   pub front : List Step
   pub others : List Step
   pub split : steps ≡ front ++ others
   pub answers : List (Option Answer)
   pub now : World
-  pub run : RunBy acts next start front answers now
+  pub run : SpendsBy acts calls next start front answers now was.flash.due desk.flash.due
   pub is_at : IsAt stands mode desk now
-  pub cut : IsCut before answers desk.sink
+  pub cut : IsCut was.sink.written answers desk.sink
 
--- A command failed: nothing was written, and but for its change of the tables nothing was done.
+-- The steps are a command, which failed: nothing was written, and but for its change of the tables nothing was done.
 pub record CommandFailed (stands : Device → FlashView → State → Type 0) (next : List ℕ → ℕ → ℕ) (mode : Mode)
-    (steps : List Step) (start : World) (before : List ℕ) (desk : Desk) : Type 0 where
+    (steps : List Step) (start : World) (was desk : Desk) : Type 0 where
+  pub command : Command
+  pub asks : AsksFor command steps
   pub now : World
-  pub change : MayChange next steps start now
+  pub change : MayChange next command start now
   pub is_at : IsAt stands mode desk now
-  pub written : desk.sink.written ≡ Some before
+  pub written : desk.sink.written ≡ was.sink.written
+  pub due : desk.flash.due ≡ was.flash.due
 
 -- There was no memory for a command: nothing was done.
-pub record CommandRefused (stands : Device → FlashView → State → Type 0) (mode : Mode) (start : World) (before : List ℕ)
-    (desk : Desk) : Type 0 where
+pub record CommandRefused (stands : Device → FlashView → State → Type 0) (mode : Mode) (start : World) (was desk : Desk)
+    : Type 0 where
   pub is_at : IsAt stands mode desk start
-  pub written : desk.sink.written ≡ Some before
+  pub written : desk.sink.written ≡ was.sink.written
+  pub due : desk.flash.due ≡ was.flash.due
 
 -- What became of these steps: they are done, the sink failed at the answer to one of them, or a command failed.
 abbrev pub Ends : (Event → Option Reply → State → State → Type 0) → (Device → FlashView → State → Type 0)
-    → (List ℕ → ℕ → ℕ) → Mode → List Step → Result (Unit {0}) LineFault → World → List ℕ → Desk → Type 0
-Ends acts stands next mode steps (Ok done) start before desk = Done acts stands next mode steps start before desk
-Ends acts stands next mode steps (Err fault.Write) start before desk =
-    Stopped acts stands next mode steps start before desk
-Ends acts stands next mode steps (Err fault.Keep) start before desk = CommandFailed stands next mode steps start before desk
-Ends acts stands next mode steps (Err fault.Memory) start before desk = CommandRefused stands mode start before desk
+    → (State → Event → Option ℕ) → (List ℕ → ℕ → ℕ) → Mode → List Step → Result (Unit {0}) LineFault → World
+    → Desk → Desk → Type 0
+Ends acts stands calls next mode steps (Ok done) start was desk = Done acts stands calls next mode steps start was desk
+Ends acts stands calls next mode steps (Err fault.Write) start was desk =
+    Stopped acts stands calls next mode steps start was desk
+Ends acts stands calls next mode steps (Err fault.Keep) start was desk =
+    CommandFailed stands next mode steps start was desk
+Ends acts stands calls next mode steps (Err fault.Memory) start was desk = CommandRefused stands mode start was desk
 
--- Whatever the desk stands for, and whatever was written before, that became of these steps.
+-- Whatever the desk stands for, that became of these steps.
 abbrev pub WorksBy : (Event → Option Reply → State → State → Type 0) → (Device → FlashView → State → Type 0)
-    → (List ℕ → ℕ → ℕ) → Mode → List Step → Result (Unit {0}) LineFault → Desk → Desk → Type 0
-WorksBy acts stands next mode steps result old new =
-    (start : World) (text : List ℕ) → IsAt stands mode old start → old.sink.written ≡ Some text
-    → Ends acts stands next mode steps result start text new
+    → (State → Event → Option ℕ) → (List ℕ → ℕ → ℕ) → Mode → List Step → Result (Unit {0}) LineFault → Desk → Desk
+    → Type 0
+WorksBy acts stands calls next mode steps result old new =
+    (start : World) → IsAt stands mode old start → Ends acts stands calls next mode steps result start old new
+
+-- Of a flash that isn't seen no number of calls is said.
+abbrev pub unsaid : State → Event → Option ℕ
+unsaid state event = None
 
 -- It did so by what the flash tells; and where that tells no words, by what the device has in memory.
 pub record Works (next : List ℕ → ℕ → ℕ) (mode : Mode) (steps : List Step) (result : Result (Unit {0}) LineFault)
     (old new : Desk) : Type 0 where
-  pub seen : WorksBy (Acts next) Agrees next mode steps result old new
-  pub unseen : WorksBy (ActsUnseen next) Recalls next mode steps result old new
+  pub seen : WorksBy (Acts next) Agrees (calls_of next) next mode steps result old new
+  pub unseen : WorksBy (ActsUnseen next) Recalls unsaid next mode steps result old new
 
 -- A fault of the sink as one of a line.
 abbrev pub of_line : Result (Unit {0}) WriteFault → Result (Unit {0}) LineFault
@@ -125,8 +135,8 @@ Says next steps result before after =
 
 -- These bytes were written, or where the sink failed the first of them, fewer than all.
 abbrev pub Wrote : List ℕ → Result (Unit {0}) WriteFault → SinkView → SinkView → Type 0
-Wrote bytes (Ok done) old new = new.written ≡ append_known old.written bytes
-Wrote bytes (Err fault) old new = (n : ℕ) × (n < length bytes) × (new.written ≡ append_known old.written (take n bytes))
+Wrote bytes (Ok done) old new = new.written ≡ old.written ++ bytes
+Wrote bytes (Err fault) old new = (n : ℕ) × (n < length bytes) × (new.written ≡ old.written ++ take n bytes)
 
 -- Who is to blame for a line that wasn't answered: the keeper at Keep and the sink at Write, each by one fault. Else neither
 -- had one.

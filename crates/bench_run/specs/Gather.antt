@@ -29,6 +29,7 @@ pub record IsPiece (size : ℕ) (whole : Bool) (before : ℕ) (buffer buffer' : 
   pub none : whole ≡ false → new.held ≡ []
   pub size_is : size ≡ before + length piece
   pub front : (text : List ℕ) → IsFront buffer text before → IsFront buffer' (text ++ piece) size
+  pub ahead : length new.held < 8192
   pub budget : new.budget ≡ old.budget
   pub taken : new.taken ≡ old.taken
   pub ended : new.ended ≡ old.ended

@@ -1,7 +1,7 @@
 -- A reader of lines, as it is seen from outside.
-use Rattle.std.specs.Prelude.{◌≡◌, ◌≢◌, ◌⊎◌, ℕ, ◌+◌, ◌<◌, ◌≤◌, Bool, true, false, List, [], ◌∷◌, ◌++◌, length, take, Result, Ok, Err}
+use Rattle.std.specs.Prelude.{◌≡◌, ◌≢◌, ◌⊎◌, ℕ, ◌+◌, ◌<◌, ◌≤◌, Bool, true, false, List, [], ◌∷◌, ◌++◌, length, take, Result, Ok, Err, OnOk}
 use Rattle.std.specs.Io.KnownBytes.{prepend_known, IsAtEnd}
-use Rattle.paygo_spec.specs.Faults.{raised, Rose}
+use Rattle.paygo_spec.specs.Faults.{Rose}
 use Rattle.paygo_spec.specs.Streams.{SourceView}
 use Rattle.run_spec.specs.Lines.{whole_lines}
 use Rattle.bench_run.specs.declared.lines.Next.{Next}
@@ -17,11 +17,11 @@ pub record LinesView : Type 0 where
   pub held : List ℕ
   pub ended : Bool
 
--- In a call these bytes came from the source, and were counted on both sides.
+-- In a call these bytes came from the source, and were counted.
 pub record Came (came : List ℕ) (old new : LinesView) (was now : SourceView) : Type 0 where
+  pub given : now.given ≡ was.given ++ came
   pub left : was.left ≡ prepend_known came now.left
   pub counted : new.taken ≡ old.taken + length came
-  pub taken : now.taken ≡ raised was.taken (length came)
   pub budget : new.budget ≡ old.budget
   pub most : new.taken ≤ new.budget
   -- once the end is told the source isn't read again, it stays told, and it is told only where the source is at its end
@@ -54,7 +54,7 @@ ReadsBy (Err fault.Read) before now = Rose before now
 ReadsBy result before now = now ≡ before
 
 -- A call of `next`: some bytes came, and with those held before they make what it answers. The source was read only
--- where no whole line was held.
+-- where no whole line was held, so behind what is handed out less than a block is held.
 pub record Hands (result : Result Next LinesFault) (buffer : List ℕ) (old new : LinesView) (was now : SourceView)
     : Type 0 where
   pub came : List ℕ
@@ -62,3 +62,4 @@ pub record Hands (result : Result Next LinesFault) (buffer : List ℕ) (old new 
   pub answer : HandsOut result (old.held ++ came) buffer new
   pub faults : ReadsBy result was.faults now.faults
   pub needed : (now ≡ was) ⊎ (whole_lines old.held ≡ [])
+  pub ahead : OnOk result (length new.held < 8192)

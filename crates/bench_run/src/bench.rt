@@ -10,7 +10,7 @@ use ledger_spec::{Answer, Command, LedgerFault, TextFault};
 use ledger_text::read;
 use line_text::Line;
 use loan_ledger::apply;
-use paygo_outside::{Flash, Sink, WriteFault};
+use paygo_ports::{Flash, Sink, WriteFault};
 use paygo_spec::{Event, Reply};
 use run_spec::Mode;
 use std::alloc::Global;
@@ -338,3 +338,6 @@ fn told(outcome: Result<(), WriteFault>) -> Result<(), LineFault>
         Err(WriteFault) => Err(LineFault::Write),
     }
 }
+
+#[cfg(test)]
+mod tests;

@@ -3,7 +3,7 @@ ghost use Rattle.std.specs.Prelude.{◌≡◌, ◌≢◌, ◌+◌, ◌-◌, ◌�
 ghost use Rattle.std.specs.Prelude.{length as len_of};
 ghost use Rattle.bench_run.specs.Gather.{is_end, handed_of, IsFront, IsPiece, Fills};
 
-use paygo_outside::Source;
+use paygo_ports::Source;
 use std::marker::Model;
 
 /// The most bytes that a line may have.

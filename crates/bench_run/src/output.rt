@@ -3,7 +3,6 @@ ghost use Rattle.std.specs.Prelude.{◌≡◌, ◌≤◌, ◌++◌, ◌∷◌, [
 ghost use Rattle.std.specs.Option.{option_map};
 ghost use Rattle.paygo_spec.specs.Faults.{Counted};
 ghost use Rattle.ledger_spec.specs.AnswerText.{text_of_fault};
-ghost use Rattle.ledger_spec.specs.Ledger.{AnswerIsInRange};
 ghost use Rattle.run_spec.specs.Run.{Said, Did, Told};
 ghost use Rattle.run_spec.specs.Text.{line_of as line_of_answer};
 ghost use Rattle.bench_run.specs.Bench.{Wrote};
@@ -12,7 +11,7 @@ use device_core::line as line_of;
 use ledger_spec::{Answer, TextFault};
 use ledger_text::{answer_line, fault_line};
 use line_text::Line;
-use paygo_outside::{Sink, WriteFault};
+use paygo_ports::{Sink, WriteFault};
 use paygo_spec::Reply;
 
 // Writes all of the bytes, or where the sink fails the first of them, fewer than all.
@@ -57,9 +56,9 @@ pub(crate) fn write_reply<K: Sink>(sink: &mut K, reply: Option<Reply>) -> Result
     }
 }
 
-// Writes the line of a text of at most 100 bytes.
+// Writes the line of a text of at most 511 bytes.
 pub(crate) fn write_text<K: Sink>(sink: &mut K, text: &[u8]) -> Result<(), WriteFault>
-    requires { length text.now ≤ 100 }
+    requires { length text.now ≤ 511 }
     ensures wrote { Wrote (line_of_answer (Some (Said text.now))) result (K.view sink.old) (K.view sink.new) }
     ensures cause { Counted result (K.view sink.old).faults (K.view sink.new).faults }
 {
@@ -70,7 +69,6 @@ pub(crate) fn write_text<K: Sink>(sink: &mut K, text: &[u8]) -> Result<(), Write
 
 // Writes the line of the ledger's answer.
 pub(crate) fn write_answer<K: Sink>(sink: &mut K, answer: &Answer) -> Result<(), WriteFault>
-    requires { AnswerIsInRange answer.now }
     ensures wrote { Wrote (line_of_answer (Some (Did answer.now))) result (K.view sink.old) (K.view sink.new) }
     ensures cause { Counted result (K.view sink.old).faults (K.view sink.new).faults }
 {

@@ -1,106 +1,260 @@
-// The shop is started over a database. Its device is enrolled with a key of 16 zeros, the starting code 123456789 and nine digits,
-// and the counts of its chain are 7,000 apart.
+// The keeper over a real database: what it keeps, what it hands out again, and what it refuses.
+ghost use Rattle.std.specs.Prelude.{◌≡◌, ◌≤◌, ◌<◌, ◌*◌, ◌^◌, ◌↔◌, true, IsTrue, length};
+ghost use Rattle.ledger_spec.specs.Tables.{RowIsInRange, OrderIsInRange, AskIsInRange, ChangeIsInRange, is_limit};
+
+mod kept;
+mod plain;
+mod shop;
+mod stored;
+
 use keeper_sqlite::SqliteKeeper;
-use paygo_cli::{Status, run};
-use paygo_outside::{MemFlash, MemSink, MemSource, Memory};
+use ledger_keeper::Keeper;
+use ledger_spec::{Ask, KeeperFault, Kind, Name, Order, PriceChange, Row};
+use paygo_spec::{Form, GREAT, LAST, is_divider};
 use std::alloc::Global;
 use std::process::Abort;
-use token_chain::Stride;
 
-/// A device is enrolled; a week is paid, paid again, and paid otherwise under the same id; and what is kept is asked for.
-const SALE: &str =
-    r#"{"do":"enroll","serial":"A1","key":"00000000000000000000000000000000","start":123456789,"divider":1,"form":9,"price":50,"total":18000}
-{"do":"pay","id":"p1","serial":"A1","amount":350}
-{"do":"pay","id":"p1","serial":"A1","amount":350}
-{"do":"pay","id":"p1","serial":"A1","amount":400}
-{"do":"order","id":"p1"}
-{"do":"order","id":"zz"}
-{"do":"show","serial":"ZZ"}
-"#;
+fn name(rt: &impl Abort, text: &[u8]) -> Name
+    ensures { length result ≤ 16 }
+{
+    Name::of(text, 16).expect(rt, "a name")
+}
 
-const SOLD: &str =
-    r#"{"ok":"row","serial":"A1","start":123456789,"divider":1,"form":9,"price":50,"total":18000,"paid":0,"rest":0,"last":0,"closed":false}
-{"ok":"order","id":"p1","serial":"A1","kind":"add","asked":350,"count":2,"value":7,"token":"123470796"}
-{"ok":"order","id":"p1","serial":"A1","kind":"add","asked":350,"count":2,"value":7,"token":"123470796"}
-{"no":2,"why":"id used","id":"p1","serial":"A1","kind":"add","asked":350,"count":2,"value":7,"token":"123470796"}
-{"ok":"order","id":"p1","serial":"A1","kind":"add","asked":350,"count":2,"value":7,"token":"123470796"}
-{"no":8,"why":"no order"}
-{"no":1,"why":"no device"}
-"#;
+fn text(rt: &impl Abort, alloc: Global, text: &str) -> String {
+    String::from_str(alloc, text).expect(rt, "memory")
+}
 
-/// The payment once more; a price that changes, a payment at it, and a device that is raised.
-const LATER: &str = r#"{"do":"pay","id":"p1","serial":"A1","amount":350}
-{"do":"price","serial":"A1","from":2,"price":60}
-{"do":"pay","id":"p2","serial":"A1","amount":350}
-{"do":"raise","serial":"A1"}
-"#;
+// The row of a device that was just sold. No two of its numbers are the same.
+fn sold(rt: &impl Abort, serial: &[u8], form: Form, limit: u16) -> Row {
+    Row {
+        serial: name(rt, serial),
+        key: [1, 2, 3, 4, 5, 6, 7, 8, 9, 10, 11, 12, 13, 14, 15, 16],
+        start: 123_456_789,
+        divider: 24,
+        form,
+        price: 50,
+        total: 18_000,
+        paid: 0,
+        rest: 0,
+        last: 0,
+        limit,
+        closed: false,
+    }
+}
 
-const THEN: &str =
-    r#"{"ok":"order","id":"p1","serial":"A1","kind":"add","asked":350,"count":2,"value":7,"token":"123470796"}
-{"ok":"price","serial":"A1","from":2,"price":60}
-{"ok":"order","id":"p2","serial":"A1","kind":"add","asked":350,"count":4,"value":5,"token":"123484794"}
-{"ok":"row","serial":"A1","start":123456789,"divider":1,"form":9,"price":50,"total":18000,"paid":700,"rest":50,"last":4,"closed":false,"limit":16383}
-"#;
+// The row with this last count, and this sum paid, of which a part is left over.
+fn later(row: &Row, last: u16, paid: u64, rest: u64, closed: bool) -> Row {
+    Row {
+        last,
+        paid,
+        rest,
+        closed,
+        ..*row
+    }
+}
 
-/// All that was kept is asked for.
-const AGAIN: &str = r#"{"do":"order","id":"p2"}
-{"do":"show","serial":"A1"}
-{"do":"price","serial":"A1","from":2,"price":70}
-"#;
+// The order of this id that made a row what it is.
+fn order(rt: &impl Abort, id: &[u8], row: &Row, ask: Ask, kind: Kind, value: u16) -> Order {
+    Order {
+        id: name(rt, id),
+        serial: row.serial,
+        ask,
+        kind,
+        count: row.last,
+        value,
+        token: 700_000_000 + u32::from(row.last) * 1000 + u32::from(value),
+    }
+}
 
-const KEPT: &str =
-    r#"{"ok":"order","id":"p2","serial":"A1","kind":"add","asked":350,"count":4,"value":5,"token":"123484794"}
-{"ok":"row","serial":"A1","start":123456789,"divider":1,"form":9,"price":50,"total":18000,"paid":700,"rest":50,"last":4,"closed":false,"limit":16383}
-{"no":11,"why":"price used","price":60}
-"#;
+// Whether both prices and what is left over are in range.
+fn are_prices(row: &Row) -> bool
+    ensures { IsTrue result ↔ ((1 ≤ row.now.price) × (row.now.price ≤ 10 ^ 9) × (1 ≤ row.now.total)
+        × (row.now.total ≤ 10 ^ 12) × (row.now.rest < 10 ^ 9)) }
+{
+    1 <= row.price
+        && row.price <= 1_000_000_000
+        && 1 <= row.total
+        && row.total <= 1_000_000_000_000
+        && row.rest < 1_000_000_000
+}
 
-/// What the program writes that is run with these words over this keeper, with these lines as its input.
-fn ran(
+// Whether the limit, the last count and what was paid are in range.
+fn are_counts(row: &Row) -> bool
+    ensures { IsTrue result ↔ ((is_limit row.now.limit ≡ true) × (row.now.last ≤ row.now.limit)
+        × (row.now.paid ≤ row.now.last * 10 ^ 12)) }
+{
+    (row.limit == LAST || row.limit == GREAT)
+        && row.last <= row.limit
+        && row.paid <= u64::from(row.last) * 1_000_000_000_000
+}
+
+fn row_is_in_range(row: &Row) -> bool
+    ensures { IsTrue result ↔ RowIsInRange row.now }
+{
+    row.serial.bytes().len() <= 16
+        && row.start < 1_000_000_000
+        && is_divider(u64::from(row.divider))
+        && are_prices(row)
+        && are_counts(row)
+}
+
+fn ask_is_in_range(ask: &Ask) -> bool
+    ensures { IsTrue result ↔ AskIsInRange ask.now }
+{
+    match ask {
+        Ask::Pay(amount) => 1 <= *amount && *amount <= 1_000_000_000_000,
+        Ask::Set(units) => *units <= 995,
+        Ask::Disable | Ask::Sync => true,
+    }
+}
+
+fn order_is_in_range(order: &Order) -> bool
+    ensures { IsTrue result ↔ OrderIsInRange order.now }
+{
+    order.serial.bytes().len() <= 16
+        && ask_is_in_range(&order.ask)
+        && 1 <= order.count
+        && order.count <= GREAT
+        && order.value <= 999
+        && order.token < 1_000_000_000
+}
+
+fn change_is_in_range(change: &PriceChange) -> bool
+    ensures { IsTrue result ↔ ChangeIsInRange change.now }
+{
+    change.from <= GREAT && 1 <= change.price && change.price <= 1_000_000_000
+}
+
+// The calls of a keeper that write, which want what is in range.
+fn add_device(
+    rt: &impl Abort,
     alloc: Global,
     keeper: &mut SqliteKeeper<'_>,
-    words: &[&str],
-    input: &str,
-) -> Result<(Status, String), Memory> {
-    let mut source = MemSource::new(alloc, input.as_bytes())?;
-    let mut sink = MemSink::new(alloc, 8192)?;
-    let status = run::<Stride<7>, MemSource, MemSink, SqliteKeeper<'_>, MemFlash>(
-        alloc,
-        words,
-        &mut source,
-        &mut sink,
-        keeper,
-        &mut MemFlash::erased(),
+    row: &Row,
+) -> Result<(), KeeperFault> {
+    assert!(rt; row_is_in_range(row), "a row out of range");
+    keeper.add_device(alloc, row)
+}
+
+fn add_order(
+    rt: &impl Abort,
+    alloc: Global,
+    keeper: &mut SqliteKeeper<'_>,
+    order: &Order,
+    row: &Row,
+) -> Result<(), KeeperFault> {
+    assert!(rt; row.serial.same(&order.serial), "another device");
+    let order = Order {
+        serial: row.serial,
+        ..*order
+    };
+    assert!(rt; row_is_in_range(row), "a row out of range");
+    assert!(rt; order_is_in_range(&order), "an order out of range");
+    keeper.add_order(alloc, &order, row)
+}
+
+// Adds a change of the price of A1.
+fn keep_price(
+    rt: &impl Abort,
+    alloc: Global,
+    keeper: &mut SqliteKeeper<'_>,
+    from: u16,
+    price: u64,
+) -> Result<(), KeeperFault> {
+    let change = PriceChange {
+        serial: name(rt, b"A1"),
+        from,
+        price,
+    };
+    assert!(rt; change_is_in_range(&change), "a change out of range");
+    keeper.add_price(alloc, &change)
+}
+
+// What is read is what was wanted, member by member.
+fn is_row(rt: &impl Abort, row: &Row, want: &Row) {
+    assert!(rt; row.serial.same(&want.serial), "another serial");
+    assert!(rt; row.key == want.key, "another key");
+    assert_eq!(rt;
+        (row.start, row.divider, row.form),
+        (want.start, want.divider, want.form)
     );
-    let text = str::from_utf8(sink.bytes()).unwrap_or("no text");
-    let text = String::from_str(alloc, text).map_err(|_| Memory)?;
-    Ok((status, text))
+    assert_eq!(rt; (row.price, row.total), (want.price, want.total));
+    assert_eq!(rt; (row.paid, row.rest), (want.paid, want.rest));
+    assert_eq!(rt;
+        (row.last, row.limit, row.closed),
+        (want.last, want.limit, want.closed)
+    );
 }
 
-/// The lines of three runs over one database, each with an audit behind it. The database is closed after each run.
-fn three_runs(rt: &impl Abort, alloc: Global, keeper: &mut SqliteKeeper<'_>) -> Result<(), Memory> {
-    let runs = [
-        (SALE, SOLD, "audited 1 1 0\n"),
-        (LATER, THEN, "audited 1 2 0\n"),
-        (AGAIN, KEPT, "audited 1 2 0\n"),
-    ];
-    for (input, want, found) in runs {
-        let (status, text) = ran(alloc, keeper, &["serve", "D"], input)?;
-        assert_eq!(rt; (status, text.as_str()), (Status::Ok, want));
-        assert!(rt; keeper.close().is_ok());
-        let (status, text) = ran(alloc, keeper, &["audit", "D"], "power\n")?;
-        assert_eq!(rt; (status, text.as_str()), (Status::Ok, found));
-        assert!(rt; keeper.close().is_ok());
+fn is_order(rt: &impl Abort, order: &Order, want: &Order) {
+    assert!(rt; order.id.same(&want.id), "another id");
+    assert!(rt; order.serial.same(&want.serial), "another serial");
+    assert_eq!(rt; (order.ask, order.kind), (want.ask, want.kind));
+    assert_eq!(rt;
+        (order.count, order.value, order.token),
+        (want.count, want.value, want.token)
+    );
+}
+
+// The row of this serial is kept as it was wanted.
+fn has_row(rt: &impl Abort, alloc: Global, keeper: &mut SqliteKeeper<'_>, want: &Row) {
+    let found = keeper.device(alloc, &want.serial).expect(rt, "an answer");
+    is_row(rt, &found.expect(rt, "a row"), want);
+}
+
+// The order of this id is kept as it was wanted, of a device with this form.
+fn has_order(
+    rt: &impl Abort,
+    alloc: Global,
+    keeper: &mut SqliteKeeper<'_>,
+    want: &Order,
+    form: Form,
+) {
+    let found = keeper.order(alloc, &want.id).expect(rt, "an answer");
+    let (order, of) = found.expect(rt, "an order");
+    is_order(rt, &order, want);
+    assert_eq!(rt; of, form);
+}
+
+// No order is kept under this id.
+fn has_no_order(rt: &impl Abort, alloc: Global, keeper: &mut SqliteKeeper<'_>, id: &[u8]) {
+    let found = keeper.order(alloc, &name(rt, id)).expect(rt, "an answer");
+    assert!(rt; found.is_none(), "an order");
+}
+
+// The orders of the first one's device are these, in this order.
+fn has_orders(rt: &impl Abort, alloc: Global, keeper: &mut SqliteKeeper<'_>, want: &[Order]) {
+    assert!(rt; !want.is_empty());
+    let found = keeper
+        .orders_of(alloc, &want[0].serial)
+        .expect(rt, "the orders");
+    assert_eq!(rt; found.len(), want.len());
+    for i in 0..want.len() {
+        is_order(rt, &found[i], &want[i]);
     }
-    Ok(())
 }
 
-#[test]
-fn a_shop_over_a_database_in_memory(rt: HostRuntime) -> Result<(), Memory> {
-    three_runs(&rt, rt.alloc(), &mut SqliteKeeper::in_memory(&rt))
+// The rows are these, in this order.
+fn has_rows(rt: &impl Abort, alloc: Global, keeper: &mut SqliteKeeper<'_>, want: &[Row]) {
+    let found = keeper.rows(alloc).expect(rt, "the rows");
+    assert_eq!(rt; found.len(), want.len());
+    for i in 0..want.len() {
+        is_row(rt, &found[i], &want[i]);
+    }
 }
 
-#[test]
-fn a_shop_over_a_database_in_a_file(rt: HostRuntime) -> Result<(), Memory> {
-    let path = String::from_str(rt.alloc(), "shop.db").map_err(|_| Memory)?;
-    three_runs(&rt, rt.alloc(), &mut SqliteKeeper::at(&rt, path))
+// Whether a call failed, and not for want of memory.
+fn failed(outcome: Result<(), KeeperFault>) -> bool {
+    outcome == Err(KeeperFault::Failed)
+}
+
+// The changes of the price of A1 are these, in this order.
+fn has_prices(rt: &impl Abort, alloc: Global, keeper: &mut SqliteKeeper<'_>, want: &[(u16, u64)]) {
+    let serial = name(rt, b"A1");
+    let found = keeper.prices_of(alloc, &serial).expect(rt, "the changes");
+    assert_eq!(rt; found.len(), want.len());
+    for i in 0..want.len() {
+        assert!(rt; found[i].serial.same(&serial), "another serial");
+        assert_eq!(rt; (found[i].from, found[i].price), want[i]);
+    }
 }

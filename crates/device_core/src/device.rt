@@ -4,7 +4,7 @@ use crate::power::{greeting, start};
 use crate::unmade::{answer_only, begin};
 use bank_journal::Journal;
 use keypad_entry::Pad;
-use paygo_outside::Flash;
+use paygo_ports::Flash;
 use paygo_spec::{Config, Event, Reply};
 use token_chain::Mixer;
 
@@ -60,7 +60,8 @@ impl Device {
     /// any other reply, and none, is no fault. Where the flash tells its due, a failure that was planned came or is
     /// still to come, and no other came. Where it tells its words too, `Down` comes exactly where the due is below the
     /// number of calls that the event makes, which is said but for `Power` on a damaged flash. `Worn` leaves the
-    /// history as it was, and `Power` every word, also of a damaged flash.
+    /// history as it was: on a flash without room no event changes the clock, and no wrong entry blocks. `Power` leaves
+    /// every word, also of a damaged flash.
     ///
     /// Over a flash that tells no words, as a file tells none, the replies still follow what the device has in memory:
     /// what it found when its power came, and what it did since then. Where such a flash was written by another in the

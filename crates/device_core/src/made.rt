@@ -9,7 +9,7 @@ use crate::decision::{Decision, decide};
 use crate::replies::reply_to;
 use bank_journal::{Journal, JournalFault};
 use keypad_entry::Pad;
-use paygo_outside::Flash;
+use paygo_ports::Flash;
 use paygo_spec::{Entry, Event, Reply};
 use token_chain::Mixer;
 

@@ -6,7 +6,7 @@ ghost use Rattle.device_core.specs.Memory.{Fits};
 
 use crate::device::Phase;
 use bank_journal::{JournalFault, load};
-use paygo_outside::Flash;
+use paygo_ports::Flash;
 use paygo_spec::Reply;
 
 // Powers the flash up and reads it, and gives what the device does then: it is off where the flash failed.

@@ -8,7 +8,7 @@ ghost use Rattle.device_core.specs.Changes.{Begins};
 use crate::device::Phase;
 use bank_journal::{JournalFault, make};
 use keypad_entry::Pad;
-use paygo_outside::Flash;
+use paygo_ports::Flash;
 use paygo_spec::{Config, Event, Reply};
 
 // Any event but `Power`, and but that such a device is made: it has this one reply. Of the keys it takes `#` alone,

@@ -21,11 +21,12 @@ pub enum DigitFault {
 
 /// Writes the digits of a token to the front of `out`, and gives their number: 9 or 15.
 ///
-/// The token is below 1,000,000,000. The rest of `out` stays as it was. [`read`] reads the token back.
+/// Of a number with more digits than the form has, the last ones are written. The rest of `out` stays as it was. Each token is below
+/// 1,000,000,000, and [`read`] reads it back, as it does each number below the form's limit.
 pub fn write(form: Form, token: u32, out: &mut [u8; 15]) -> usize
-    requires { token < 10 ^ 9 }
     ensures length { result ≡ digit_count form }
     ensures digits { take result out.new ≡ digits_of form token }
+    ensures back { token < token_limit form → value_of form (take result out.new) ≡ Some token }
     ensures rest { drop result out.new ≡ drop result out.old }
 {
     let count = form.length();

@@ -7,7 +7,7 @@ use crate::bits::bits;
 use crate::naming::{id, serial};
 use fleet_spec::Step;
 use ledger_spec::Command;
-use paygo_outside::{Cut, Memory};
+use paygo_spec::{Cut, Memory};
 
 // What a customer pays a week.
 const WEEK_PRICE: u64 = 350;

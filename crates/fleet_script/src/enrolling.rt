@@ -7,8 +7,7 @@ ghost use Rattle.fleet_spec.specs.Script.{form_of_device, enrol_of, enrols_of};
 use crate::naming::serial;
 use crate::words::Words;
 use ledger_spec::Enrol;
-use paygo_outside::Memory;
-use paygo_spec::Form;
+use paygo_spec::{Form, Memory};
 use std::alloc::Global;
 
 // The price of a day, and that of the device itself.

@@ -8,7 +8,7 @@ use crate::device_day::put_device_day;
 use crate::enrolling::enrols;
 use crate::words::Words;
 use fleet_spec::{Script, Step};
-use paygo_outside::Memory;
+use paygo_spec::Memory;
 use std::alloc::Global;
 
 // Puts the steps of a day behind these, device by device, for each of which the next word is drawn.

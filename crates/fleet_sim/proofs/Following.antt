@@ -17,6 +17,7 @@ use Rattle.paygo_spec.specs.Digits.{numeral, digits_of}
 use Rattle.paygo_spec.specs.Pad.{IsKey, kept_of, no_keys}
 use Rattle.paygo_spec.specs.Recovery.{Recovered, Unmade, word_at, newest_bank, by_headers, recover}
 use Rattle.paygo_spec.specs.Machine.{Stands, StandsAs, Blank, IsEvent, calls_of}
+use Rattle.paygo_spec.specs.declared.Cut.{Cut}
 use Rattle.device_core.specs.declared.device.Device.{Device}
 use Rattle.device_core.specs.Memory.{Does, Costs, CostsAsSaid, is_on}
 use Rattle.fleet_spec.specs.Fleet.{Site, Happens, Happen, falls_in, planned_after, CutsByPlan, new_site, config_of, typed}
@@ -43,10 +44,10 @@ erased_stands None are = are
 erased_stands (Some words) are = blank (recover words) (erased_unmade words are)
 
 -- a device before its first event
-pub starts : (device : Device) (flash : FlashView) → is_on device ≡ false → device.pad ≡ kept_of no_keys
+pub starts : (device : Device) (flash : FlashView) (cut : Option Cut) → is_on device ≡ false → device.pad ≡ kept_of no_keys
     → IsSomeAnd flash.words AreErased → flash.due ≡ Some None → flash.faults ≡ 0
-    → StandsFor (record { device = device; flash = flash }) (new_site 0)
-starts device flash off pad words due faults = record {
+    → StandsFor (record { device = device; flash = flash; cut = cut }) (new_site 0)
+starts device flash cut off pad words due faults = record {
   agrees = record { on_is = sym off; pad_is = pad; stand = record { words = erased_stands flash.words words; faults = sym faults } };
   due = due;
 }
@@ -90,11 +91,11 @@ cuts_of (Some calls) answer was now old new told told_now costs =
 
 module _ (next : List ℕ → ℕ → ℕ) where
   -- an event that a device did
-  pub follows : (event : Event) (answer : Option Reply) (old new : Device) (was now : FlashView) (due : Option ℕ)
+  pub follows : (event : Event) (answer : Option Reply) (old new : Device) (was now : FlashView) (due : Option ℕ) (planned left : Option Cut)
       → IsEvent event → now.due ≡ Some due
       → Does next event old was answer new now → CostsAsSaid next event old was answer now
-      → Follows next (event ∷ []) (answer ∷ []) (record { device = old; flash = was }) (record { device = new; flash = now })
-  follows event answer old new was now due is told does costs site stands =
+      → Follows next (event ∷ []) (answer ∷ []) (record { device = old; flash = was; cut = planned }) (record { device = new; flash = now; cut = left })
+  follows event answer old new was now due planned left is told does costs site stands =
       let did = does site.device stands.agrees in
       let after : Site = record { device = did.0; due = due } in
       let happens : Happens next event answer site after =

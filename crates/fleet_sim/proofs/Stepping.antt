@@ -9,7 +9,7 @@ use Rattle.paygo_spec.specs.declared.Event.TheVariants as event
 use Rattle.paygo_spec.specs.declared.Form.{Form}
 use Rattle.paygo_spec.specs.declared.Reply.{Reply}
 use Rattle.paygo_spec.specs.Digits.{digits_of}
-use Rattle.paygo_outside.specs.declared.mem_flash.Cut.{Cut}
+use Rattle.paygo_spec.specs.declared.Cut.{Cut}
 use Rattle.ledger_spec.specs.declared.Command.{Command}
 use Rattle.ledger_spec.specs.declared.Command.TheVariants.{Enroll}
 use Rattle.ledger_spec.specs.declared.Enrol.{Enrol}
@@ -23,7 +23,7 @@ use Rattle.fleet_spec.specs.declared.Step.TheVariants.{Ledger, Plan, Wrong, Ente
 use Rattle.fleet_spec.specs.Fleet.{Site, Fleet, Happen, HappenAt, AreMade, Steps, Goes, planned, sold, typed, typed_order, typed_wrong, new_site, config_of}
 use Rattle.fleet_sim.specs.Tallies.{no_answers, counted}
 use Rattle.fleet_sim.specs.Sites.{SiteView, StandsFor, IsMade, typed_found}
-use Rattle.fleet_sim.specs.Fleets.{commanded, FleetView, IsSold, Runs, PlansAt, CountsAt, EntersAt}
+use Rattle.fleet_sim.specs.Fleets.{commanded, FleetView, HasPlanned, IsSold, Runs, PlansAt, CountsAt, EntersAt}
 use Rattle.fleet_sim.proofs.Counting.{counted-append}
 
 -- the device that one of the sites stands for
@@ -60,6 +60,13 @@ sites_set (v ∷ views) (s ∷ sites) zero view site stand is = (is, stand.1)
 sites_set (v ∷ views) (s ∷ sites) (suc at) view site stand is = (stand.0, sites_set views sites at view site stand.1 is)
 sites_set [] (s ∷ sites) at view site stand is = absurd stand
 sites_set (v ∷ views) [] at view site stand is = absurd stand
+
+-- what is set is found there
+set_found : (views : List SiteView) (at : ℕ) (before after : SiteView) → slice_get views at ≡ Some before
+    → slice_get (slice_set views at after) at ≡ Some after
+set_found [] at before after found = absurd (let bad : None ≡ Some before = found in cc)
+set_found (view ∷ views) zero before after found = refl
+set_found (view ∷ views) (suc at) before after found = set_found views at before after found
 
 module _ (next : List ℕ → ℕ → ℕ) (enrols : List Enrol) where
   -- more steps behind others
@@ -125,7 +132,7 @@ module _ (next : List ℕ → ℕ → ℕ) (enrols : List Enrol) where
   }
 
   -- a power cut that was planned
-  pub plan_runs : (device : ℕ) (cut : Cut) (old new : FleetView) → PlansAt device cut.after old new
+  pub plan_runs : (device : ℕ) (cut : Cut) (old new : FleetView) → PlansAt device cut old new
       → Runs next enrols (Plan device cut ∷ []) old new
   plan_runs device cut old new plans = record {
     answers = [];
@@ -140,10 +147,17 @@ module _ (next : List ℕ → ℕ → ℕ) (enrols : List Enrol) where
           record {
             tables = ap (λ (v : FleetView). v.tables) plans.left ∙ stands.tables;
             sites = subst (λ (v : FleetView). AllZip StandsFor v.sites after.sites) (sym plans.left)
-                (sites_set old.sites fleet.sites device plans.after now stands.sites (plans.plans site.0 site.2));
+                (sites_set old.sites fleet.sites device plans.after now stands.sites (plans.plans.stands site.0 site.2));
           },
         );
   }
+
+  -- and it is planned then
+  pub plan_kept : (device : ℕ) (cut : Cut) (old new : FleetView) → PlansAt device cut old new → HasPlanned (Plan device cut) new
+  plan_kept device cut old new plans =
+      let found : slice_get new.sites device ≡ Some plans.after =
+      ap (λ (v : FleetView). slice_get v.sites device) plans.left ∙ set_found old.sites device plans.before plans.after plans.found in
+      rw found plans.plans.cut_is
 
   -- events at a device, where they are those of the step
   events_run : (step : Step) (device : ℕ) (events : List Event) (old new : FleetView)

@@ -1,9 +1,10 @@
 -- A fleet in memory, as it is seen, and what it stands for.
-use Rattle.std.specs.Prelude.{◌≡◌, ℕ, List, length, slice_get, slice_set, Option, Some, IfSome}
+use Rattle.std.specs.Prelude.{◌≡◌, ℕ, List, length, slice_get, slice_set, Option, Some, IfSome, IsSomeAnd}
 use Rattle.std.specs.List.{AllZip}
 use Rattle.paygo_spec.specs.declared.Event.{Event}
 use Rattle.paygo_spec.specs.declared.Form.{Form}
 use Rattle.paygo_spec.specs.declared.Reply.{Reply}
+use Rattle.paygo_spec.specs.declared.Cut.{Cut}
 use Rattle.ledger_spec.specs.declared.Command.{Command}
 use Rattle.ledger_spec.specs.declared.Enrol.{Enrol}
 use Rattle.ledger_spec.specs.declared.Order.{Order}
@@ -12,11 +13,12 @@ use Rattle.ledger_spec.specs.Applied.{left_by}
 use Rattle.ledger_spec.specs.Keeper.{IsOrderOf}
 use Rattle.ledger_spec.specs.Ledger.{done}
 use Rattle.fleet_spec.specs.declared.Step.{Step}
+use Rattle.fleet_spec.specs.declared.Step.TheVariants.{Plan}
 use Rattle.fleet_spec.specs.declared.Totals.{Totals}
-use Rattle.fleet_spec.specs.Fleet.{Site, Fleet, AreMade, Goes, planned, sold, totals_of}
+use Rattle.fleet_spec.specs.Fleet.{Site, Fleet, AreMade, Goes, sold, totals_of}
 use Rattle.fleet_sim.specs.declared.tally.Tally.{Tally}
 use Rattle.fleet_sim.specs.Tallies.{no_answers, counted}
-use Rattle.fleet_sim.specs.Sites.{SiteView, StandsFor, Counts, typed_found}
+use Rattle.fleet_sim.specs.Sites.{SiteView, StandsFor, Plans, Counts, typed_found}
 
 -- What is seen of a fleet in memory: the shop's tables, the devices with their flashes, and the answers counted so far.
 pub record FleetView : Type 0 where
@@ -49,13 +51,18 @@ pub record Runs (next : List ℕ → ℕ → ℕ) (enrols : List Enrol) (steps :
 abbrev pub commanded : (List ℕ → ℕ → ℕ) → Command → FleetView → FleetView
 commanded next command view = record view { tables = left_by (λ t. done next t command) view.tables }
 
--- A plan is made for one of the devices.
-pub record PlansAt (at due : ℕ) (old new : FleetView) : Type 0 where
+-- This power cut is planned for one of the devices.
+pub record PlansAt (at : ℕ) (cut : Cut) (old new : FleetView) : Type 0 where
   pub before : SiteView
   pub after : SiteView
   pub found : slice_get old.sites at ≡ Some before
-  pub plans : (site : Site) → StandsFor before site → StandsFor after (planned due site)
+  pub plans : Plans cut before after
   pub left : new ≡ record old { sites = slice_set old.sites at after }
+
+-- Behind a step that plans a power cut, that cut is the one that is planned for the device, with the bits that it keeps.
+abbrev pub HasPlanned : Step → FleetView → Type 0
+HasPlanned (Plan device cut) view = IsSomeAnd (slice_get view.sites device) (λ site. site.cut ≡ Some cut)
+HasPlanned step view = Unit {0}
 
 -- These events happened to one of the devices, and their answers were counted.
 pub record CountsAt (next : List ℕ → ℕ → ℕ) (at : ℕ) (events : List Event) (old new : FleetView) : Type 0 where

@@ -9,7 +9,7 @@ ghost use Rattle.ledger_spec.specs.declared.Enrol.{Enrol as EnrolView};
 ghost use Rattle.fleet_spec.specs.Fleet.{Site as FleetSite, StepIsInRange, typed, left_of, still};
 ghost use Rattle.fleet_sim.specs.Tallies.{no_answers};
 ghost use Rattle.fleet_sim.specs.Sites.{StandsFor};
-ghost use Rattle.fleet_sim.specs.Fleets.{IsSold, Runs, PlansAt, CountsAt, EntersAt, TotalsAre, commanded};
+ghost use Rattle.fleet_sim.specs.Fleets.{IsSold, Runs, PlansAt, HasPlanned, CountsAt, EntersAt, TotalsAre, commanded};
 
 use crate::site::Site;
 use crate::tally::Tally;
@@ -17,8 +17,7 @@ use bench_run::Bench;
 use fleet_spec::{Step, Totals};
 use ledger_keeper::{Keeper, MemKeeper};
 use ledger_spec::{Command, Enrol, Name};
-use paygo_outside::{Cut, Memory};
-use paygo_spec::{Event, Form};
+use paygo_spec::{Cut, Event, Form, Memory};
 use std::alloc::Global;
 use std::marker::Model;
 use token_chain::Mixer;
@@ -104,7 +103,7 @@ impl<M: Mixer> MemFleet<M> {
     // A power cut is planned for the flash of a device.
     fn plan(&mut self, device: u32, cut: Cut)
         requires { device < length self.old.sites }
-        ensures { PlansAt device cut.after self.old self.new }
+        ensures { PlansAt device cut self.old self.new }
     {
         let site = &mut self.sites[device as usize];
         site.plan(cut);
@@ -148,7 +147,8 @@ impl<M: Mixer> MemFleet<M> {
     fn step(&mut self, alloc: Global, enrols: &[Enrol], step: &Step) -> Result<(), Memory>
         requires step { StepIsInRange (length enrols.now) step.now }
         requires count { length self.old.sites ≡ length enrols.now }
-        ensures { IfOk result (λ _. Runs M.next enrols.now (step.now ∷ []) self.old self.new) }
+        ensures runs { IfOk result (λ _. Runs M.next enrols.now (step.now ∷ []) self.old self.new) }
+        ensures planned { IfOk result (λ _. HasPlanned step.now self.new) }
     {
         match step {
             Step::Ledger(command) => return self.command(alloc, command),

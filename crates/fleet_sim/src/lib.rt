@@ -7,7 +7,7 @@ mod site;
 mod tally;
 
 pub use fleet_spec::{Script, Step, Totals};
-pub use paygo_outside::Memory;
+pub use paygo_spec::Memory;
 pub use run::run_fleet;
 
 #[cfg(test)]

@@ -4,7 +4,7 @@ ghost use Rattle.fleet_spec.specs.Fleet.{IsInRange, Came};
 
 use crate::fleet::MemFleet;
 use fleet_spec::{Script, Totals};
-use paygo_outside::Memory;
+use paygo_spec::Memory;
 use std::alloc::Global;
 use token_chain::Mixer;
 

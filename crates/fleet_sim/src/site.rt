@@ -6,19 +6,21 @@ ghost use Rattle.paygo_spec.specs.Machine.{IsEvent};
 ghost use Rattle.paygo_spec.specs.Pad.{IsKey};
 ghost use Rattle.ledger_spec.specs.Ledger.{EnrolIsInRange};
 ghost use Rattle.ledger_spec.specs.Tables.{OrderIsInRange};
-ghost use Rattle.fleet_spec.specs.Fleet.{Site as FleetSite, new_site, left_of, planned, typed};
-ghost use Rattle.fleet_sim.specs.Sites.{StandsFor, Follows, Counts, IsMade, typed_found};
+ghost use Rattle.fleet_spec.specs.Fleet.{Site as FleetSite, new_site, left_of, typed};
+ghost use Rattle.fleet_sim.specs.Sites.{StandsFor, Plans, Follows, Counts, IsMade, typed_found};
 
 use crate::tally::Tally;
 use bench_run::Bench;
 use digit_set::write;
 use ledger_spec::{Enrol, Order};
-use paygo_outside::{Cut, Flash, MemFlash};
-use paygo_spec::{Config, Event, Form, Reply};
+use memory_ports::MemFlash;
+use paygo_ports::Flash;
+use paygo_spec::{Config, Cut, Event, Form, Reply};
 use std::marker::Model;
 use token_chain::Mixer;
 
-/// A device of the fleet, with its flash. What is seen of it is what the device has in memory, and its flash.
+/// A device of the fleet, with its flash. What is seen of it is what the device has in memory, its flash, and the power cut
+/// that is planned for that.
 #[derive(Drop)]
 pub struct Site<M: Mixer> {
     bench: Bench<M>,
@@ -28,10 +30,15 @@ pub struct Site<M: Mixer> {
 impl<M: Mixer> Model for Site<M> {
     ghost use Rattle.device_core.specs.Memory.{Holds};
     ghost use Rattle.fleet_sim.specs.Sites.{SiteView};
+    ghost use Rattle.memory_ports.specs.Plans.{planned_cut};
 
     ghost Value = { SiteView };
 
-    ghost view = { λ s. record { device = s.bench; flash = ⟦<MemFlash as Flash>⟧.view s.flash } };
+    ghost view = { λ s. record {
+      device = s.bench;
+      flash = ⟦<MemFlash as Flash>⟧.view s.flash;
+      cut = planned_cut s.flash;
+    } };
 
     ghost invariant = { λ s. Holds s.bench (⟦<MemFlash as Flash>⟧.view s.flash) };
 }
@@ -112,9 +119,9 @@ impl<M: Mixer> Site<M> {
         }
     }
 
-    /// A power cut is planned, in place of one that was planned before.
+    /// A power cut is planned, with the bits that it keeps, in place of one that was planned before.
     pub fn plan(&mut self, cut: Cut)
-        ensures { (site : FleetSite) → StandsFor self.old site → StandsFor self.new (planned cut.after site) }
+        ensures { Plans cut self.old self.new }
     {
         self.flash.plan(Some(cut));
     }

@@ -5,8 +5,7 @@ ghost use Rattle.fleet_spec.specs.Fleet.{StepIsInRange};
 
 use super::*;
 use ledger_spec::{Command, Enrol, Name};
-use paygo_outside::Cut;
-use paygo_spec::Form;
+use paygo_spec::{Cut, Form};
 use std::alloc::Global;
 use std::process::Abort;
 use token_chain::Stride;

@@ -5,7 +5,7 @@ use Rattle.std.specs.Fmt.{decimal}
 use Rattle.std.specs.Int.{w64, to_be_bytes}
 use Rattle.paygo_spec.specs.declared.Form.{Form}
 use Rattle.paygo_spec.specs.declared.Form.TheVariants.{Nine, Fifteen}
-use Rattle.paygo_outside.specs.declared.mem_flash.Cut.{Cut}
+use Rattle.paygo_spec.specs.declared.Cut.{Cut}
 use Rattle.ledger_spec.specs.declared.Enrol.{Enrol}
 use Rattle.ledger_spec.specs.declared.Command.TheVariants.{Pay}
 use Rattle.fleet_spec.specs.declared.Step.{Step}

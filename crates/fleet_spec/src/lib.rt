@@ -3,7 +3,7 @@
 #![tactic(auto)]
 
 use ledger_spec::{Command, Enrol, Name};
-use paygo_outside::Cut;
+use paygo_spec::Cut;
 
 /// One thing that happens in a fleet. Devices are counted from 0.
 #[derive(Clone, Copy, Debug)]

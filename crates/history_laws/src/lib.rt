@@ -4,7 +4,7 @@
 // A law speaks of any history: a start, and the entries since then. `unit` is the seconds of one unit of time.
 #![tactic(auto)]
 
-ghost use Rattle.std.specs.Prelude.{◌≡◌, ◌<◌, ◌≤◌, ◌+◌, ◌^◌, ◌↔◌, ℕ, true, List, [], ◌∷◌, Option, Some};
+ghost use Rattle.std.specs.Prelude.{◌≡◌, ◌≢◌, ◌<◌, ◌≤◌, ◌+◌, ◌^◌, ◌↔◌, ℕ, true, List, [], ◌∷◌, Option, Some};
 ghost use Rattle.paygo_spec.specs.declared.Entry.{Entry};
 ghost use Rattle.paygo_spec.specs.declared.Entry.TheVariants.{Elapsed};
 ghost use Rattle.paygo_spec.specs.History.{Summary, fresh, limit_of, IsLimit, top, accepts, spent, IsSpent, reach, Valid, is_valid};
@@ -13,13 +13,16 @@ ghost use Rattle.paygo_spec.specs.Window.{StandsFor, alone, IsWindow, is_window}
 ghost use Rattle.paygo_spec.specs.Lawful.{IsSummary, MayFollow, Lawful, IsWritten, follows};
 ghost use Rattle.paygo_spec.specs.Snapshot.{snapshot};
 ghost use Rattle.paygo_spec.specs.declared.Event.{Event};
+ghost use Rattle.paygo_spec.specs.declared.Event.TheVariants.{Power};
+ghost use Rattle.paygo_spec.specs.Layout.{room};
 ghost use Rattle.paygo_spec.specs.declared.Reply.{Reply};
-ghost use Rattle.paygo_spec.specs.Machine.{State, History, Acts, IsEvent, unit_for, clock_at, shows_same};
+ghost use Rattle.paygo_spec.specs.Machine.{State, Journal, History, Acts, IsEvent, Stands, unit_for, clock_at, shows_same};
 ghost use Rattle.paygo_spec.specs.Searched.{Searched, SearchedOn, IsClean, effects};
 ghost use Rattle.paygo_spec.specs.declared.Found.TheVariants.{Valid as FoundValid};
 ghost use Rattle.paygo_spec.specs.Chain.{token_at, token_base_of, value_in};
 ghost use Rattle.paygo_spec.specs.Found.{found};
 ghost use Rattle.paygo_spec.specs.EntryNumber.{number_of, entry_of, HasNumber, after_number};
+ghost use Rattle.history_laws.specs.Worn.{IsWorn, IsWornStep, StandsStill, Lives};
 
 /// Each test that the code makes decides the fact that a reader reads.
 pub fn tests_are_facts()
@@ -87,6 +90,28 @@ pub fn seconds_that_show_nothing_change_nothing()
         ((shows_same (clock_at history (Elapsed seconds ∷ entries)) (clock_at history entries) ≡ true) ↔
         (snapshot (unit_for history) history.start (Elapsed seconds ∷ entries) ≡
         snapshot (unit_for history) history.start entries)) }
+{}
+
+/// A worn device, whose flash has no room for an entry more, stands still: whatever events come, its time left and block, its
+/// failures and its counts stay as they were. Time that is left then never runs out, so who builds a device is to treat the
+/// answer `worn` as out of time.
+///
+/// While it is on, each event but `power` has one answer, without a call of the flash, so nothing can fail. What would add an
+/// entry, as a token that may be used, a bad entry, or seconds that change the clock, is answered `worn`; so is `raise`, since
+/// no bank is left, but on a device that was raised. All else is answered as ever: `old`, `blocked`, a wrong length or digit,
+/// `made`, `shown`, and seconds that change nothing of the clock. At `power` the flash is read, which may fail, and nothing
+/// of the history changes then either.
+pub fn worn_devices_stand_still()
+    ensures ever { (next : List ℕ → ℕ → ℕ) (events : List Event) (old new : State) (history : History) →
+        old.stored ≡ Journal history → IsWorn history.at → Lives next events old new →
+        StandsStill history new.stored }
+    ensures answer { (next : List ℕ → ℕ → ℕ) (event : Event) (reply : Option Reply) (old new : State)
+        (history : History) → event ≢ Power → old.on ≡ true → old.stored ≡ Journal history → IsWorn history.at →
+        Acts next event reply old new → IsWornStep next history event reply old new }
+
+    // A flash whose words stand for a device has no bank behind the last one: so it is worn where it has no room.
+    ensures banks { (words : Option (List ℕ)) (history : History) → Stands words (Journal history) →
+        room history.at ≡ 0 → IsWorn history.at }
 {}
 
 /// A window stands for the histories whose snapshot has its two numbers, and for no other.

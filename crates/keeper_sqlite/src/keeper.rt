@@ -1,14 +1,15 @@
 // A keeper of the tables in a database.
-ghost use Rattle.std.specs.Prelude.{◌≡◌, None, IfOk, IfSome, All};
-ghost use Rattle.ledger_spec.specs.Tables.{RowIsInRange, OrderIsInRange, ChangeIsInRange};
+ghost use Rattle.std.specs.Prelude.{◌≡◌, ◌↔◌, None, IsTrue, IfOk, IfSome, All};
+ghost use Rattle.ledger_spec.specs.Sorted.{rises, order_before, row_before};
+ghost use Rattle.ledger_spec.specs.Tables.{RowIsInRange, OrderIsInRange, ChangeIsInRange, change_before};
 ghost use Rattle.ledger_spec.specs.Keeper.{Counts};
 
-use crate::tables;
-use crate::tables::fault;
+use crate::tables::{TablesOver, fault};
 use ledger_keeper::Keeper;
 use ledger_spec::{KeeperFault, Name, Order, PriceChange, Row};
 use paygo_spec::Form;
-use sqlite::{Connection, File, FileStore, MemStore};
+use shop_schema::{Misfit, SchemaError};
+use sqlite::{Alter, Connection, Error, ErrorCode, File, FileStore, MemStore};
 use std::alloc::Global;
 use std::mem;
 
@@ -27,9 +28,9 @@ enum Link {
     // It isn't open.
     Shut,
     // To a file.
-    File(Connection<FileStore<File>>),
+    File(TablesOver<FileStore<File>>),
     // In memory.
-    Memory(Connection<MemStore>),
+    Memory(TablesOver<MemStore>),
 }
 
 /// A keeper of the shop's tables in a SQLite database, in a file or in memory. It tells no tables: no clause can say what
@@ -39,14 +40,16 @@ enum Link {
 /// program can open the file. What is committed stands in the file and in the log beside it, whose name has `-wal` at its
 /// end: the two belong together, until `close` has copied the log into the file.
 ///
-/// A call fails, and counts it once, where the database can't be opened, where a statement is refused, and where a row,
-/// an order or a change of a price is found that is out of range, or an order whose device has no row. It says
-/// `Memory`, and counts nothing, where there is no memory. A call that answers counts nothing.
+/// A call fails, and counts it once, where the database can't be opened, where a statement is refused or writes another
+/// number of rows than one, and where a row, an order or a change of a price is found that isn't what was asked for, or
+/// out of its order or its range, or an order whose device has no row. It says `Memory`, and counts nothing, where there
+/// is no memory. A call that answers counts nothing.
 #[derive(Drop)]
 pub struct SqliteKeeper<'a> {
     rt: &'a HostRuntime,
     place: Place,
     link: Link,
+    misfit: Option<Misfit>,
     faults: u64,
 }
 
@@ -60,6 +63,7 @@ impl<'a> SqliteKeeper<'a> {
             rt,
             place: Place::File(path),
             link: Link::Shut,
+            misfit: None,
             faults: 0,
         }
     }
@@ -72,6 +76,7 @@ impl<'a> SqliteKeeper<'a> {
             rt,
             place: Place::Memory,
             link: Link::Shut,
+            misfit: None,
             faults: 0,
         }
     }
@@ -96,12 +101,17 @@ impl<'a> SqliteKeeper<'a> {
     {
         match mem::replace(&mut self.link, Link::Shut) {
             Link::Shut => Ok(()),
-            Link::File(conn) => conn.close().map_err(fault),
-            Link::Memory(conn) => {
-                self.link = Link::Memory(conn);
+            Link::File(tables) => tables.into_connection().close().map_err(fault),
+            Link::Memory(tables) => {
+                self.link = Link::Memory(tables);
                 Ok(())
             }
         }
+    }
+
+    /// What is wrong with a table of the database, where the newest open that failed refused its form.
+    pub fn trouble(&self) -> Option<&Misfit> {
+        self.misfit.as_ref()
     }
 
     // Opens the database, where it isn't open yet, and makes the tables that are absent.
@@ -111,8 +121,29 @@ impl<'a> SqliteKeeper<'a> {
         if !matches!(self.link, Link::Shut) {
             return Ok(());
         }
-        self.link = opened(self.rt, &self.place)?;
-        Ok(())
+        match opened(self.rt, &self.place) {
+            Ok(link) => {
+                self.link = link;
+                Ok(())
+            }
+            Err(error) => Err(self.refused(error)),
+        }
+    }
+
+    // What an open that failed comes to. It keeps what is wrong with a table.
+    fn refused(&mut self, error: SchemaError) -> KeeperFault
+        ensures same { self.new.faults ≡ self.old.faults }
+        ensures memory { (result ≡ KeeperFault.Memory) ↔ (error ≡ SchemaError.Memory) }
+    {
+        self.misfit = None;
+        match error {
+            SchemaError::Memory => KeeperFault::Memory,
+            SchemaError::Failed => KeeperFault::Failed,
+            SchemaError::Misfit(misfit) => {
+                self.misfit = Some(misfit);
+                KeeperFault::Failed
+            }
+        }
     }
 
     // Counts a call that failed, and no other.
@@ -128,70 +159,90 @@ impl<'a> SqliteKeeper<'a> {
 }
 
 // The way to the database at this place, with its tables.
-fn opened(rt: &HostRuntime, place: &Place) -> Result<Link, KeeperFault> {
+fn opened(rt: &HostRuntime, place: &Place) -> Result<Link, SchemaError> {
     match place {
         Place::File(path) => {
-            let mut conn = Connection::open(rt, path.as_str()).map_err(fault)?;
-            tables::make(&mut conn)?;
-            Ok(Link::File(conn))
+            let conn = Connection::open(rt, path.as_str()).map_err(unopened)?;
+            Ok(Link::File(made(rt.alloc(), conn)?))
         }
         Place::Memory => {
-            let Ok(mut conn) = Connection::open_in_memory(rt.alloc()) else {
-                return Err(KeeperFault::Memory);
+            let Ok(conn) = Connection::open_in_memory(rt.alloc()) else {
+                return Err(SchemaError::Memory);
             };
-            tables::make(&mut conn)?;
-            Ok(Link::Memory(conn))
+            Ok(Link::Memory(made(rt.alloc(), conn)?))
         }
     }
+}
+
+// What an open that failed is to its tables.
+fn unopened(error: Error) -> SchemaError
+    ensures { (result ≡ SchemaError.Memory) ↔ (error ≡ Error.SqliteFailure ErrorCode.OutOfMemory) }
+{
+    match fault(error) {
+        KeeperFault::Memory => SchemaError::Memory,
+        KeeperFault::Failed => SchemaError::Failed,
+    }
+}
+
+// The tables over a connection, where those that were absent are made.
+fn made<S: Alter + Drop>(alloc: Global, conn: Connection<S>) -> Result<TablesOver<S>, SchemaError> {
+    let mut tables = TablesOver::new(conn);
+    tables.make(alloc)?;
+    Ok(tables)
 }
 
 // Each call of a keeper, with nothing counted.
 impl<'a> SqliteKeeper<'a> {
     fn find_device(&mut self, serial: &Name) -> Result<Option<Row>, KeeperFault>
         ensures same { self.new.faults ≡ self.old.faults }
+        ensures asked { IfOk result (λ found. IfSome found (λ row. row.serial ≡ serial.now)) }
         ensures in_range { IfOk result (λ found. IfSome found RowIsInRange) }
     {
         self.open()?;
         match &mut self.link {
             Link::Shut => Err(KeeperFault::Failed),
-            Link::File(conn) => tables::device(conn, serial),
-            Link::Memory(conn) => tables::device(conn, serial),
+            Link::File(tables) => tables.device(serial),
+            Link::Memory(tables) => tables.device(serial),
         }
     }
 
     fn find_order(&mut self, id: &Name) -> Result<Option<(Order, Form)>, KeeperFault>
         ensures same { self.new.faults ≡ self.old.faults }
+        ensures asked { IfOk result (λ found. IfSome found (λ f. f.0.id ≡ id.now)) }
         ensures in_range { IfOk result (λ found. IfSome found (λ f. OrderIsInRange f.0)) }
     {
         self.open()?;
         match &mut self.link {
             Link::Shut => Err(KeeperFault::Failed),
-            Link::File(conn) => tables::order(conn, id),
-            Link::Memory(conn) => tables::order(conn, id),
+            Link::File(tables) => tables.order(id),
+            Link::Memory(tables) => tables.order(id),
         }
     }
 
     fn list_orders(&mut self, alloc: Global, serial: &Name) -> Result<Vec<Order>, KeeperFault>
         ensures same { self.new.faults ≡ self.old.faults }
+        ensures asked { IfOk result (λ list. All (λ order. order.serial ≡ serial.now) list.items) }
+        ensures ordered { IfOk result (λ list. IsTrue (rises order_before list.items)) }
         ensures in_range { IfOk result (λ list. All OrderIsInRange list.items) }
     {
         self.open()?;
         match &mut self.link {
             Link::Shut => Err(KeeperFault::Failed),
-            Link::File(conn) => tables::orders_for(conn, alloc, serial),
-            Link::Memory(conn) => tables::orders_for(conn, alloc, serial),
+            Link::File(tables) => tables.orders_of(alloc, serial),
+            Link::Memory(tables) => tables.orders_of(alloc, serial),
         }
     }
 
     fn list_rows(&mut self, alloc: Global) -> Result<Vec<Row>, KeeperFault>
         ensures same { self.new.faults ≡ self.old.faults }
+        ensures ordered { IfOk result (λ list. IsTrue (rises row_before list.items)) }
         ensures in_range { IfOk result (λ list. All RowIsInRange list.items) }
     {
         self.open()?;
         match &mut self.link {
             Link::Shut => Err(KeeperFault::Failed),
-            Link::File(conn) => tables::rows(conn, alloc),
-            Link::Memory(conn) => tables::rows(conn, alloc),
+            Link::File(tables) => tables.rows(alloc),
+            Link::Memory(tables) => tables.rows(alloc),
         }
     }
 
@@ -201,8 +252,8 @@ impl<'a> SqliteKeeper<'a> {
         self.open()?;
         match &mut self.link {
             Link::Shut => Err(KeeperFault::Failed),
-            Link::File(conn) => tables::add_device(conn, row),
-            Link::Memory(conn) => tables::add_device(conn, row),
+            Link::File(tables) => tables.add_device(row),
+            Link::Memory(tables) => tables.add_device(row),
         }
     }
 
@@ -212,20 +263,22 @@ impl<'a> SqliteKeeper<'a> {
         self.open()?;
         match &mut self.link {
             Link::Shut => Err(KeeperFault::Failed),
-            Link::File(conn) => tables::add_order(conn, order, row),
-            Link::Memory(conn) => tables::add_order(conn, order, row),
+            Link::File(tables) => tables.add_order(order, row),
+            Link::Memory(tables) => tables.add_order(order, row),
         }
     }
 
     fn list_prices(&mut self, alloc: Global, serial: &Name) -> Result<Vec<PriceChange>, KeeperFault>
         ensures same { self.new.faults ≡ self.old.faults }
+        ensures asked { IfOk result (λ list. All (λ change. change.serial ≡ serial.now) list.items) }
+        ensures ordered { IfOk result (λ list. IsTrue (rises change_before list.items)) }
         ensures in_range { IfOk result (λ list. All ChangeIsInRange list.items) }
     {
         self.open()?;
         match &mut self.link {
             Link::Shut => Err(KeeperFault::Failed),
-            Link::File(conn) => tables::prices_for(conn, alloc, serial),
-            Link::Memory(conn) => tables::prices_for(conn, alloc, serial),
+            Link::File(tables) => tables.prices_of(alloc, serial),
+            Link::Memory(tables) => tables.prices_of(alloc, serial),
         }
     }
 
@@ -235,8 +288,8 @@ impl<'a> SqliteKeeper<'a> {
         self.open()?;
         match &mut self.link {
             Link::Shut => Err(KeeperFault::Failed),
-            Link::File(conn) => tables::raise(conn, serial),
-            Link::Memory(conn) => tables::raise(conn, serial),
+            Link::File(tables) => tables.raise(serial),
+            Link::Memory(tables) => tables.raise(serial),
         }
     }
 
@@ -246,8 +299,8 @@ impl<'a> SqliteKeeper<'a> {
         self.open()?;
         match &mut self.link {
             Link::Shut => Err(KeeperFault::Failed),
-            Link::File(conn) => tables::add_price(conn, change),
-            Link::Memory(conn) => tables::add_price(conn, change),
+            Link::File(tables) => tables.add_price(change),
+            Link::Memory(tables) => tables.add_price(change),
         }
     }
 }

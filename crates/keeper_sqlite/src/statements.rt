@@ -1,43 +1,5 @@
 // The statements, each a fixed text with its parameters by place.
 
-// The tables and the index, where they are absent. A file that was made before the last two tables were thought of gets
-// them empty.
-pub(crate) const MAKE: &str = "
-CREATE TABLE IF NOT EXISTS device (
-  serial TEXT PRIMARY KEY NOT NULL,
-  secret BLOB NOT NULL,
-  start INTEGER NOT NULL,
-  divider INTEGER NOT NULL,
-  form INTEGER NOT NULL,
-  price INTEGER NOT NULL,
-  total INTEGER NOT NULL,
-  paid INTEGER NOT NULL,
-  rest INTEGER NOT NULL,
-  last INTEGER NOT NULL,
-  closed INTEGER NOT NULL
-);
-CREATE TABLE IF NOT EXISTS token_order (
-  id TEXT PRIMARY KEY NOT NULL,
-  serial TEXT NOT NULL REFERENCES device (serial),
-  ask INTEGER NOT NULL,
-  asked INTEGER NOT NULL,
-  kind INTEGER NOT NULL,
-  count INTEGER NOT NULL,
-  value INTEGER NOT NULL,
-  token INTEGER NOT NULL
-);
-CREATE INDEX IF NOT EXISTS token_order_by_device ON token_order (serial, count, id);
-CREATE TABLE IF NOT EXISTS raised (
-  serial TEXT PRIMARY KEY NOT NULL REFERENCES device (serial)
-);
-CREATE TABLE IF NOT EXISTS price_change (
-  serial TEXT NOT NULL REFERENCES device (serial),
-  from_count INTEGER NOT NULL,
-  price INTEGER NOT NULL,
-  PRIMARY KEY (serial, from_count)
-);
-";
-
 // The row of a serial.
 pub(crate) const DEVICE: &str = "
 SELECT d.serial, d.secret, d.start, d.divider, d.form, d.price, d.total, d.paid, d.rest, d.last, d.closed,

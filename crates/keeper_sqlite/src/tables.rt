@@ -1,25 +1,219 @@
-// Each call of a keeper as statements, over any store.
-ghost use Rattle.std.specs.Prelude.{IfOk, IfSome, All};
-ghost use Rattle.ledger_spec.specs.Tables.{RowIsInRange, OrderIsInRange, ChangeIsInRange};
+// The tables over any store: each call of a keeper as statements.
+ghost use Rattle.std.specs.Prelude.{◌≡◌, ◌↔◌, IsTrue, IfOk, IfSome, All, Ok, Err};
+ghost use Rattle.ledger_spec.specs.declared.KeeperFault.TheVariants.{Failed, Memory};
+ghost use Rattle.ledger_spec.specs.Sorted.{rises, order_before, row_before};
+ghost use Rattle.ledger_spec.specs.Tables.{RowIsInRange, OrderIsInRange, ChangeIsInRange, change_before};
 
+use crate::found::{order_found, orders_found, prices_found, row_found, rows_found};
 use crate::statements::{
-    ADD_DEVICE, ADD_ORDER, ADD_PRICE, DEVICE, DEVICES, MAKE, ORDER, ORDERS, PRICES, PUT_DEVICE,
-    RAISE,
+    ADD_DEVICE, ADD_ORDER, ADD_PRICE, DEVICE, DEVICES, ORDER, ORDERS, PRICES, PUT_DEVICE, RAISE,
 };
 use ledger_spec::{KeeperFault, Name, Order, PriceChange, Row};
 use paygo_spec::{Form, LAST};
+use shop_schema::SchemaError;
 use sqlite::{Alter, Connection, Error, ErrorCode, Transaction, params};
 use std::alloc::Global;
-use table_columns::{
-    ask_number, asked_number, change_at, changes_of, kind_number, order_at, orders_of, row_at,
-    rows_of,
-};
+use table_columns::{ask_number, asked_number, kind_number};
+
+/// The shop's tables over an open connection to any store: each call of a keeper as one statement or one transaction, and
+/// nothing is counted. What another program, or another form of the tables, may have put there is tested: what is found is
+/// what was asked for, in its order and in range.
+pub struct TablesOver<S: Alter> {
+    conn: Connection<S>,
+}
+
+// It is written out, so that a caller doesn't prove again how each part is dropped.
+impl<S: Alter + Drop> Drop for TablesOver<S> {
+    fn drop(self) {
+        let TablesOver { conn: _ } = self;
+    }
+}
+
+impl<S: Alter> TablesOver<S> {
+    /// The tables over this connection, which `make` makes.
+    pub fn new(conn: Connection<S>) -> TablesOver<S> {
+        TablesOver { conn }
+    }
+
+    /// The connection, with nothing in doubt.
+    pub fn into_connection(self) -> Connection<S> {
+        let TablesOver { conn } = self;
+        conn
+    }
+
+    /// Makes the tables that are absent, and judges those that are there.
+    ///
+    /// # Errors
+    ///
+    /// `Misfit` where a table has another form than the shop's; `Failed` where the database refuses a statement; `Memory`
+    /// where there is none.
+    pub fn make(&mut self, alloc: Global) -> Result<(), SchemaError> {
+        shop_schema::make(alloc, &mut self.conn)
+    }
+
+    /// The row of the serial, if there is one.
+    ///
+    /// # Errors
+    ///
+    /// `Failed` where the database refuses the statement, and where it finds another row, two of them, or one out of range;
+    /// `Memory` where there is none.
+    pub fn device(&mut self, serial: &Name) -> Result<Option<Row>, KeeperFault>
+        ensures asked { IfOk result (λ found. IfSome found (λ row. row.serial ≡ serial.now)) }
+        ensures in_range { IfOk result (λ found. IfSome found RowIsInRange) }
+    {
+        let found = query(&mut self.conn, DEVICE, text(serial))?;
+        row_found(found.as_slice(), serial)
+    }
+
+    /// The order with the id, if there is one, and the form of its row.
+    ///
+    /// # Errors
+    ///
+    /// As for `device`. An order whose device has no row is a fault too.
+    pub fn order(&mut self, id: &Name) -> Result<Option<(Order, Form)>, KeeperFault>
+        ensures asked { IfOk result (λ found. IfSome found (λ f. f.0.id ≡ id.now)) }
+        ensures in_range { IfOk result (λ found. IfSome found (λ f. OrderIsInRange f.0)) }
+    {
+        let found = query(&mut self.conn, ORDER, text(id))?;
+        order_found(found.as_slice(), id)
+    }
+
+    /// The orders of the serial, by rising count.
+    ///
+    /// # Errors
+    ///
+    /// `Failed` where the database refuses the statement, and where it finds an order of another serial or out of range, or
+    /// finds them in another order; `Memory` where there is none.
+    pub fn orders_of(&mut self, alloc: Global, serial: &Name) -> Result<Vec<Order>, KeeperFault>
+        ensures asked { IfOk result (λ list. All (λ order. order.serial ≡ serial.now) list.items) }
+        ensures ordered { IfOk result (λ list. IsTrue (rises order_before list.items)) }
+        ensures in_range { IfOk result (λ list. All OrderIsInRange list.items) }
+    {
+        let found = query(&mut self.conn, ORDERS, text(serial))?;
+        orders_found(alloc, found.as_slice(), serial)
+    }
+
+    /// All rows, by serial.
+    ///
+    /// # Errors
+    ///
+    /// As for `orders_of`.
+    pub fn rows(&mut self, alloc: Global) -> Result<Vec<Row>, KeeperFault>
+        ensures ordered { IfOk result (λ list. IsTrue (rises row_before list.items)) }
+        ensures in_range { IfOk result (λ list. All RowIsInRange list.items) }
+    {
+        let found = query_rows(&mut self.conn)?;
+        rows_found(alloc, found.as_slice())
+    }
+
+    /// The changes of the serial's price, by rising `from`.
+    ///
+    /// # Errors
+    ///
+    /// As for `orders_of`.
+    pub fn prices_of(
+        &mut self,
+        alloc: Global,
+        serial: &Name,
+    ) -> Result<Vec<PriceChange>, KeeperFault>
+        ensures asked { IfOk result (λ list. All (λ change. change.serial ≡ serial.now) list.items) }
+        ensures ordered { IfOk result (λ list. IsTrue (rises change_before list.items)) }
+        ensures in_range { IfOk result (λ list. All ChangeIsInRange list.items) }
+    {
+        let found = query(&mut self.conn, PRICES, text(serial))?;
+        prices_found(alloc, found.as_slice(), serial)
+    }
+
+    /// Adds a row, and raises its limit where it isn't the lower one, in one transaction.
+    ///
+    /// # Errors
+    ///
+    /// `Failed` where the database refuses it, as where the serial has a row; `Memory` where there is none.
+    pub fn add_device(&mut self, row: &Row) -> Result<(), KeeperFault> {
+        if !self.conn.is_autocommit() {
+            return Err(KeeperFault::Failed);
+        }
+        let mut tx = self.conn.transaction();
+        insert_device(&mut tx, row)?;
+        if row.limit != LAST {
+            insert_raised(&mut tx, &row.serial)?;
+        }
+        tx.commit().map_err(fault)
+    }
+
+    /// Adds an order, and puts the row in the place of that of its serial, in one transaction.
+    ///
+    /// # Errors
+    ///
+    /// `Failed` where the database refuses it, as where the id has an order, and where the serial has no row with the limit of
+    /// this one; `Memory` where there is none.
+    pub fn add_order(&mut self, order: &Order, row: &Row) -> Result<(), KeeperFault> {
+        if !self.conn.is_autocommit() {
+            return Err(KeeperFault::Failed);
+        }
+        let mut tx = self.conn.transaction();
+        insert_order(&mut tx, order)?;
+        put_device(&mut tx, row)?;
+        tx.commit().map_err(fault)
+    }
+
+    /// Raises the limit of the row of the serial.
+    ///
+    /// # Errors
+    ///
+    /// `Failed` where the database refuses it, and where the serial has no row or one that is raised; `Memory` where there is
+    /// none.
+    pub fn raise(&mut self, serial: &Name) -> Result<(), KeeperFault> {
+        match self.device(serial)? {
+            Some(row) if row.limit == LAST => self.write_raised(serial),
+            _ => Err(KeeperFault::Failed),
+        }
+    }
+
+    // Raises the limit of a serial that has a row with the lower one.
+    fn write_raised(&mut self, serial: &Name) -> Result<(), KeeperFault> {
+        if !self.conn.is_autocommit() {
+            return Err(KeeperFault::Failed);
+        }
+        let mut tx = self.conn.transaction();
+        insert_raised(&mut tx, serial)?;
+        tx.commit().map_err(fault)
+    }
+
+    /// Adds a change of a price.
+    ///
+    /// # Errors
+    ///
+    /// `Failed` where the database refuses it, as where the serial has no row, or a change from that count on; `Memory` where
+    /// there is none.
+    pub fn add_price(&mut self, change: &PriceChange) -> Result<(), KeeperFault> {
+        if !self.conn.is_autocommit() {
+            return Err(KeeperFault::Failed);
+        }
+        let mut tx = self.conn.transaction();
+        insert_price(&mut tx, change)?;
+        tx.commit().map_err(fault)
+    }
+}
 
 // What a refused statement comes to.
-pub(crate) fn fault(error: Error) -> KeeperFault {
+pub(crate) fn fault(error: Error) -> KeeperFault
+    ensures { (result ≡ KeeperFault.Memory) ↔ (error ≡ Error.SqliteFailure ErrorCode.OutOfMemory) }
+{
     match error {
         Error::SqliteFailure(ErrorCode::OutOfMemory) => KeeperFault::Memory,
         _ => KeeperFault::Failed,
+    }
+}
+
+// What a write comes to that is to write one row.
+fn one_row(written: Result<usize, Error>) -> Result<(), KeeperFault>
+    ensures { (result ≡ Ok tt) ↔ (written ≡ Ok 1) }
+{
+    match written {
+        Ok(1) => Ok(()),
+        Ok(_) => Err(KeeperFault::Failed),
+        Err(error) => Err(fault(error)),
     }
 }
 
@@ -33,120 +227,23 @@ fn number(n: u64) -> Option<i64> {
     i64::try_from(n).ok()
 }
 
-// Makes the tables that are absent.
-pub(crate) fn make<S: Alter>(conn: &mut Connection<S>) -> Result<(), KeeperFault> {
-    conn.execute_batch(MAKE).map_err(fault)
-}
-
-// The row of a serial.
-pub(crate) fn device<S: Alter>(
+// The columns that a statement finds for a name.
+fn query<S: Alter>(
     conn: &mut Connection<S>,
-    serial: &Name,
-) -> Result<Option<Row>, KeeperFault>
-    ensures { IfOk result (λ found. IfSome found RowIsInRange) }
-{
-    let found = conn
-        .query_all(DEVICE, params![text(serial)])
-        .map_err(fault)?;
-    first_row(found.as_slice())
+    sql: &str,
+    name: Option<&str>,
+) -> Result<Vec<sqlite::Row>, KeeperFault> {
+    conn.query_all(sql, params![name]).map_err(fault)
 }
 
-// The first row of these columns, if there is one.
-fn first_row(found: &[sqlite::Row]) -> Result<Option<Row>, KeeperFault>
-    ensures { IfOk result (λ found. IfSome found RowIsInRange) }
-{
-    let Some(columns) = found.first() else {
-        return Ok(None);
-    };
-    match row_at(columns, 0) {
-        Some(row) => Ok(Some(row)),
-        None => Err(KeeperFault::Failed),
-    }
+// The columns of all rows, by serial.
+fn query_rows<S: Alter>(conn: &mut Connection<S>) -> Result<Vec<sqlite::Row>, KeeperFault> {
+    conn.query_all(DEVICES, &[]).map_err(fault)
 }
 
-// All rows, by serial.
-pub(crate) fn rows<S: Alter>(
-    conn: &mut Connection<S>,
-    alloc: Global,
-) -> Result<Vec<Row>, KeeperFault>
-    ensures { IfOk result (λ list. All RowIsInRange list.items) }
-{
-    let found = conn.query_all(DEVICES, &[]).map_err(fault)?;
-    rows_of(alloc, found.as_slice())
-}
-
-// The order with an id, and the form of its row.
-pub(crate) fn order<S: Alter>(
-    conn: &mut Connection<S>,
-    id: &Name,
-) -> Result<Option<(Order, Form)>, KeeperFault>
-    ensures { IfOk result (λ found. IfSome found (λ f. OrderIsInRange f.0)) }
-{
-    let found = conn.query_all(ORDER, params![text(id)]).map_err(fault)?;
-    first_order(found.as_slice())
-}
-
-// The first order of these columns, if there is one, and the form of its row, which must be there and in range.
-fn first_order(found: &[sqlite::Row]) -> Result<Option<(Order, Form)>, KeeperFault>
-    ensures { IfOk result (λ found. IfSome found (λ f. OrderIsInRange f.0)) }
-{
-    let Some(columns) = found.first() else {
-        return Ok(None);
-    };
-    let Some(order) = order_at(columns) else {
-        return Err(KeeperFault::Failed);
-    };
-    match row_at(columns, 8) {
-        Some(row) => Ok(Some((order, row.form))),
-        None => Err(KeeperFault::Failed),
-    }
-}
-
-// The orders of a serial, by count and then by id.
-pub(crate) fn orders_for<S: Alter>(
-    conn: &mut Connection<S>,
-    alloc: Global,
-    serial: &Name,
-) -> Result<Vec<Order>, KeeperFault>
-    ensures { IfOk result (λ list. All OrderIsInRange list.items) }
-{
-    let found = conn
-        .query_all(ORDERS, params![text(serial)])
-        .map_err(fault)?;
-    orders_of(alloc, found.as_slice())
-}
-
-// The changes of a serial's price, by the count from which they hold.
-pub(crate) fn prices_for<S: Alter>(
-    conn: &mut Connection<S>,
-    alloc: Global,
-    serial: &Name,
-) -> Result<Vec<PriceChange>, KeeperFault>
-    ensures { IfOk result (λ list. All ChangeIsInRange list.items) }
-{
-    let found = conn
-        .query_all(PRICES, params![text(serial)])
-        .map_err(fault)?;
-    changes_of(alloc, found.as_slice())
-}
-
-// Adds a row, and raises its limit where it isn't the lower one.
-pub(crate) fn add_device<S: Alter>(conn: &mut Connection<S>, row: &Row) -> Result<(), KeeperFault> {
-    if !conn.is_autocommit() {
-        return Err(KeeperFault::Failed);
-    }
-    let mut tx = conn.transaction();
-    insert_device(&mut tx, row)?;
-    if row.limit != LAST {
-        tx.execute(RAISE, params![text(&row.serial)])
-            .map_err(fault)?;
-    }
-    tx.commit().map_err(fault)
-}
-
-fn insert_device<S: Alter>(tx: &mut Transaction<'_, S>, row: &Row) -> Result<usize, KeeperFault> {
+fn insert_device<S: Alter>(tx: &mut Transaction<'_, S>, row: &Row) -> Result<(), KeeperFault> {
     let key: &[u8] = &row.key;
-    tx.execute(
+    one_row(tx.execute(
         ADD_DEVICE,
         params![
             text(&row.serial),
@@ -161,32 +258,11 @@ fn insert_device<S: Alter>(tx: &mut Transaction<'_, S>, row: &Row) -> Result<usi
             u32::from(row.last),
             row.closed,
         ],
-    )
-    .map_err(fault)
+    ))
 }
 
-// Adds an order, and puts the row in the place of that of its serial, in one transaction.
-pub(crate) fn add_order<S: Alter>(
-    conn: &mut Connection<S>,
-    order: &Order,
-    row: &Row,
-) -> Result<(), KeeperFault> {
-    if !conn.is_autocommit() {
-        return Err(KeeperFault::Failed);
-    }
-    let mut tx = conn.transaction();
-    insert_order(&mut tx, order)?;
-    if put_device(&mut tx, row)? != 1 {
-        return Err(KeeperFault::Failed);
-    }
-    tx.commit().map_err(fault)
-}
-
-fn insert_order<S: Alter>(
-    tx: &mut Transaction<'_, S>,
-    order: &Order,
-) -> Result<usize, KeeperFault> {
-    tx.execute(
+fn insert_order<S: Alter>(tx: &mut Transaction<'_, S>, order: &Order) -> Result<(), KeeperFault> {
+    one_row(tx.execute(
         ADD_ORDER,
         params![
             text(&order.id),
@@ -198,15 +274,14 @@ fn insert_order<S: Alter>(
             u32::from(order.value),
             order.token,
         ],
-    )
-    .map_err(fault)
+    ))
 }
 
-// How many rows there are with the serial and the limit of this one, in whose place it was put.
-fn put_device<S: Alter>(tx: &mut Transaction<'_, S>, row: &Row) -> Result<usize, KeeperFault> {
+// Puts the row in the place of the one with its serial and its limit.
+fn put_device<S: Alter>(tx: &mut Transaction<'_, S>, row: &Row) -> Result<(), KeeperFault> {
     let key: &[u8] = &row.key;
     let raised = row.limit != LAST;
-    tx.execute(
+    one_row(tx.execute(
         PUT_DEVICE,
         params![
             text(&row.serial),
@@ -222,32 +297,23 @@ fn put_device<S: Alter>(tx: &mut Transaction<'_, S>, row: &Row) -> Result<usize,
             row.closed,
             raised,
         ],
-    )
-    .map_err(fault)
+    ))
 }
 
-// Raises the limit of the row of a serial.
-pub(crate) fn raise<S: Alter>(conn: &mut Connection<S>, serial: &Name) -> Result<(), KeeperFault> {
-    match conn.execute(RAISE, params![text(serial)]) {
-        Ok(_) => Ok(()),
-        Err(error) => Err(fault(error)),
-    }
+fn insert_raised<S: Alter>(tx: &mut Transaction<'_, S>, serial: &Name) -> Result<(), KeeperFault> {
+    one_row(tx.execute(RAISE, params![text(serial)]))
 }
 
-// Adds a change of a price.
-pub(crate) fn add_price<S: Alter>(
-    conn: &mut Connection<S>,
+fn insert_price<S: Alter>(
+    tx: &mut Transaction<'_, S>,
     change: &PriceChange,
 ) -> Result<(), KeeperFault> {
-    match conn.execute(
+    one_row(tx.execute(
         ADD_PRICE,
         params![
             text(&change.serial),
             u32::from(change.from),
             number(change.price)
         ],
-    ) {
-        Ok(_) => Ok(()),
-        Err(error) => Err(fault(error)),
-    }
+    ))
 }

@@ -1,8 +1,8 @@
 // A keeper of the tables by what is seen of it.
-ghost use Rattle.std.specs.Prelude.{◌≡◌, None, IfOk, IfSome, IsSome, IsSomeAnd, All};
+ghost use Rattle.std.specs.Prelude.{◌≡◌, None, IfOk, IfSome, IsSome, IsSomeAnd, IsTrue, All};
 ghost use Rattle.paygo_spec.specs.declared.TheConstants.{LAST};
-ghost use Rattle.ledger_spec.specs.Tables.{row_of, order_of, change_of, prices_for, with_row, with_order, with_change, with_raised, RowIsInRange, OrderIsInRange, ChangeIsInRange, Kept};
-ghost use Rattle.ledger_spec.specs.Sorted.{orders_for, all_rows};
+ghost use Rattle.ledger_spec.specs.Tables.{row_of, order_of, change_of, prices_for, change_before, with_row, with_order, with_change, with_raised, RowIsInRange, OrderIsInRange, ChangeIsInRange, Kept};
+ghost use Rattle.ledger_spec.specs.Sorted.{orders_for, all_rows, rises, order_before, row_before};
 ghost use Rattle.ledger_spec.specs.Keeper.{KeeperView, Reads, Commits, IsOrderOf};
 
 use ledger_spec::{KeeperFault, Name, Order, PriceChange, Row};
@@ -10,9 +10,9 @@ use paygo_spec::Form;
 use std::alloc::Global;
 
 /// A keeper of the shop's tables: the rows of the devices, the orders, and the changes of prices. It may tell them, as one
-/// in memory does, or not, as one over a database; what it hands out is in range in both cases. It counts its faults: a
-/// call that fails counts one, and a call that answers, or finds no memory, counts none. The count stands still at
-/// 2^64 - 1. All calls may take memory.
+/// in memory does, or not, as one over a database; what it hands out is what was asked for, in its order and in range, in
+/// both cases. It counts its faults: a call that fails counts one, and a call that answers, or finds no memory, counts
+/// none. The count stands still at 2^64 - 1. All calls may take memory.
 pub trait Keeper {
     /// What is seen of the keeper.
     ghost view: { Self → KeeperView };
@@ -27,6 +27,7 @@ pub trait Keeper {
         ensures reads { Reads result (view self.old) (view self.new) }
         ensures found { IfOk result (λ found. IfSome (view self.old).tables
             (λ tables. found ≡ row_of tables serial.now)) }
+        ensures asked { IfOk result (λ found. IfSome found (λ row. row.serial ≡ serial.now)) }
         ensures in_range { IfOk result (λ found. IfSome found RowIsInRange) };
 
     /// The order with the id and the form of its row, if there is one. Nothing changes.
@@ -38,6 +39,7 @@ pub trait Keeper {
         ensures reads { Reads result (view self.old) (view self.new) }
         ensures found { IfOk result (λ found. IfSome (view self.old).tables
             (λ tables. IsOrderOf tables id.now found)) }
+        ensures asked { IfOk result (λ found. IfSome found (λ f. f.0.id ≡ id.now)) }
         ensures in_range { IfOk result (λ found. IfSome found (λ f. OrderIsInRange f.0)) };
 
     /// The orders of the serial, by rising count, and by id in byte order where counts are equal. Nothing changes.
@@ -49,6 +51,8 @@ pub trait Keeper {
         ensures reads { Reads result (view self.old) (view self.new) }
         ensures found { IfOk result (λ list. IfSome (view self.old).tables
             (λ tables. list.items ≡ orders_for tables serial.now)) }
+        ensures asked { IfOk result (λ list. All (λ order. order.serial ≡ serial.now) list.items) }
+        ensures ordered { IfOk result (λ list. IsTrue (rises order_before list.items)) }
         ensures in_range { IfOk result (λ list. All OrderIsInRange list.items) };
 
     /// All rows by serial, in byte order. Nothing changes.
@@ -60,6 +64,7 @@ pub trait Keeper {
         ensures reads { Reads result (view self.old) (view self.new) }
         ensures found { IfOk result (λ list. IfSome (view self.old).tables
             (λ tables. list.items ≡ all_rows tables)) }
+        ensures ordered { IfOk result (λ list. IsTrue (rises row_before list.items)) }
         ensures in_range { IfOk result (λ list. All RowIsInRange list.items) };
 
     /// Adds a row, whose serial has none.
@@ -95,6 +100,8 @@ pub trait Keeper {
         ensures reads { Reads result (view self.old) (view self.new) }
         ensures found { IfOk result (λ list. IfSome (view self.old).tables
             (λ tables. list.items ≡ prices_for tables serial.now)) }
+        ensures asked { IfOk result (λ list. All (λ change. change.serial ≡ serial.now) list.items) }
+        ensures ordered { IfOk result (λ list. IsTrue (rises change_before list.items)) }
         ensures in_range { IfOk result (λ list. All ChangeIsInRange list.items) };
 
     /// Raises the limit of the row of the serial, which has the lower one.

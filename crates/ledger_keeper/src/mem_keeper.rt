@@ -1,11 +1,11 @@
 // A keeper in memory, whose fault is planned.
-ghost use Rattle.std.specs.Prelude.{◌≡◌, ◌≢◌, ◌+◌, ◌-◌, ◌^◌, ◌≤◌, length, min, true, false, Some, None, ◌∷◌, [], Ok, Err, IfOk, IfSome, IfNone, IsSome, All, IsSomeAnd, if◌then◌else◌, find};
+ghost use Rattle.std.specs.Prelude.{◌≡◌, ◌≢◌, ◌+◌, ◌-◌, ◌^◌, ◌≤◌, length, min, true, false, Some, None, ◌∷◌, [], Ok, Err, IfOk, IfSome, IfNone, IsSome, IsTrue, All, IsSomeAnd, if◌then◌else◌, find};
 ghost use Rattle.paygo_spec.specs.Faults.{raised, Rose};
 ghost use Rattle.ledger_spec.specs.declared.KeeperFault.TheVariants.{Failed};
-ghost use Rattle.ledger_spec.specs.Tables.{Tables, row_of, order_of, change_of, prices_for, row_in, order_in, rows_with, has_serial, no_tables, with_row, with_order, with_change, with_raised, raised_row, rows_raised, RowIsInRange, OrderIsInRange, ChangeIsInRange, Kept};
+ghost use Rattle.ledger_spec.specs.Tables.{Tables, row_of, order_of, change_of, prices_for, change_before, row_in, order_in, rows_with, has_serial, no_tables, with_row, with_order, with_change, with_raised, raised_row, rows_raised, RowIsInRange, OrderIsInRange, ChangeIsInRange, Kept};
 ghost use Rattle.paygo_spec.specs.declared.TheConstants.{LAST};
 ghost use Rattle.ledger_spec.specs.KeptOnce.{kept_prop};
-ghost use Rattle.ledger_spec.specs.Sorted.{orders_for, all_rows};
+ghost use Rattle.ledger_spec.specs.Sorted.{orders_for, all_rows, rises, order_before, row_before};
 ghost use Rattle.ledger_spec.specs.Keeper.{KeeperView, Counts, Reads, Commits, IsOrderOf};
 ghost use Rattle.ledger_keeper.specs.Planned.{planned_at, ReadsAsPlanned, WritesAsPlanned};
 
@@ -187,6 +187,7 @@ impl Keeper for MemKeeper {
         ensures reads { Reads result (⟦<MemKeeper as Keeper>⟧.view self.old) (⟦<MemKeeper as Keeper>⟧.view self.new) }
         ensures found { IfOk result (λ found. IfSome (⟦<MemKeeper as Keeper>⟧.view self.old).tables
             (λ tables. found ≡ row_of tables serial.now)) }
+        ensures asked { IfOk result (λ found. IfSome found (λ row. row.serial ≡ serial.now)) }
         ensures in_range { IfOk result (λ found. IfSome found RowIsInRange) }
         ensures plan { keeper_plan self.new ≡ record (keeper_plan self.old)
             { calls = raised (keeper_plan self.old).calls 1 } }
@@ -202,6 +203,7 @@ impl Keeper for MemKeeper {
         ensures reads { Reads result (⟦<MemKeeper as Keeper>⟧.view self.old) (⟦<MemKeeper as Keeper>⟧.view self.new) }
         ensures found { IfOk result (λ found. IfSome (⟦<MemKeeper as Keeper>⟧.view self.old).tables
             (λ tables. IsOrderOf tables id.now found)) }
+        ensures asked { IfOk result (λ found. IfSome found (λ f. f.0.id ≡ id.now)) }
         ensures in_range { IfOk result (λ found. IfSome found (λ f. OrderIsInRange f.0)) }
         ensures plan { keeper_plan self.new ≡ record (keeper_plan self.old)
             { calls = raised (keeper_plan self.old).calls 1 } }
@@ -223,6 +225,8 @@ impl Keeper for MemKeeper {
         ensures reads { Reads result (⟦<MemKeeper as Keeper>⟧.view self.old) (⟦<MemKeeper as Keeper>⟧.view self.new) }
         ensures found { IfOk result (λ list. IfSome (⟦<MemKeeper as Keeper>⟧.view self.old).tables
             (λ tables. list.items ≡ orders_for tables serial.now)) }
+        ensures asked { IfOk result (λ list. All (λ order. order.serial ≡ serial.now) list.items) }
+        ensures ordered { IfOk result (λ list. IsTrue (rises order_before list.items)) }
         ensures in_range { IfOk result (λ list. All OrderIsInRange list.items) }
         ensures plan { keeper_plan self.new ≡ record (keeper_plan self.old)
             { calls = raised (keeper_plan self.old).calls 1 } }
@@ -241,6 +245,7 @@ impl Keeper for MemKeeper {
         ensures reads { Reads result (⟦<MemKeeper as Keeper>⟧.view self.old) (⟦<MemKeeper as Keeper>⟧.view self.new) }
         ensures found { IfOk result (λ list. IfSome (⟦<MemKeeper as Keeper>⟧.view self.old).tables
             (λ tables. list.items ≡ all_rows tables)) }
+        ensures ordered { IfOk result (λ list. IsTrue (rises row_before list.items)) }
         ensures in_range { IfOk result (λ list. All RowIsInRange list.items) }
         ensures plan { keeper_plan self.new ≡ record (keeper_plan self.old)
             { calls = raised (keeper_plan self.old).calls 1 } }
@@ -310,6 +315,8 @@ impl Keeper for MemKeeper {
         ensures reads { Reads result (⟦<MemKeeper as Keeper>⟧.view self.old) (⟦<MemKeeper as Keeper>⟧.view self.new) }
         ensures found { IfOk result (λ list. IfSome (⟦<MemKeeper as Keeper>⟧.view self.old).tables
             (λ tables. list.items ≡ prices_for tables serial.now)) }
+        ensures asked { IfOk result (λ list. All (λ change. change.serial ≡ serial.now) list.items) }
+        ensures ordered { IfOk result (λ list. IsTrue (rises change_before list.items)) }
         ensures in_range { IfOk result (λ list. All ChangeIsInRange list.items) }
         ensures plan { keeper_plan self.new ≡ record (keeper_plan self.old)
             { calls = raised (keeper_plan self.old).calls 1 } }

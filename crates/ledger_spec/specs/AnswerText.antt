@@ -1,5 +1,5 @@
 -- The texts of the ledger's answers: one line of JSON each, without spaces between members. Shops print and file these
--- lines, so each is exact. The key of a device is never written: who reads an answer can issue no token.
+-- lines, so each is exact. The key of a device is never written, so that who reads an answer isn't told it.
 use Rattle.std.specs.Prelude.{ℕ, Bool, true, false, ◌==◌, List, [], ◌∷◌, ◌++◌, codes, if◌then◌else◌}
 use Rattle.std.specs.Fmt.{decimal}
 use Rattle.paygo_spec.specs.declared.Form.{Form}

@@ -1,5 +1,5 @@
 -- Which count the shop issues next. The customer types no count, only the token's digits: so a token is issued only at a
--- count at which no other count has the same digits.
+-- count whose digits no other count has, of those up to 4,095 and up to its own. A greater count may have them too.
 use Rattle.std.specs.Prelude.{ℕ, ◌+◌, ◌%◌, Bool, ◌&&◌, ◌||◌, ◌==◌, not, nat_lt, max, Option}
 use Rattle.std.specs.List.{list_all, range_with_len}
 use Rattle.paygo_spec.specs.declared.TheConstants.{LAST}

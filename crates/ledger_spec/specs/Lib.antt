@@ -12,3 +12,4 @@ pub mod Replay
 pub mod Sound
 pub mod Reading
 pub mod AnswerText
+pub mod JsonLine

@@ -19,7 +19,8 @@ use Rattle.ledger_spec.specs.declared.TextFault.{TextFault}
 use Rattle.ledger_spec.specs.declared.TextFault.TheVariants.{Json, Shape}
 use Rattle.ledger_spec.specs.Names.{name_in}
 
--- The JSON value of a line, where serde_json has a reading of it: the line is UTF-8, and its text is JSON.
+-- The JSON value of a line, where serde_json has a reading of it: the line is UTF-8, and its text is JSON that nests at most
+-- 127 deep, in which no number is too great for a float and no text has half of a surrogate pair.
 abbrev pub reading : List ℕ → Option Data
 reading line = if is_utf8 line then read line else None
 
@@ -146,6 +147,6 @@ abbrev pub command_at : Option Data → Result Command TextFault
 command_at None = Err Json
 command_at (Some value) = need 1 (verb_in value) (command_of value)
 
--- The command of a line, or why it has none: it is no JSON, or it breaks a rule.
+-- The command of a line, or why it has none: it has no JSON value, or it breaks a rule.
 unfoldable pub command_in : List ℕ → Result Command TextFault
 command_in line = command_at (reading line)

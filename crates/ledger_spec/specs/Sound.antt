@@ -1,4 +1,4 @@
--- Tables that this ledger alone has changed.
+-- What holds of tables that this ledger alone has changed, from empty ones on.
 use Rattle.std.specs.Prelude.{◌≡◌, ℕ, ◌+◌, ◌%◌, ◌^◌, ◌<◌, ◌≤◌, List, [], ◌∷◌, Some, if◌then◌else◌}
 use Rattle.paygo_spec.specs.Chain.{token_at}
 use Rattle.paygo_spec.specs.Searched.{IsClean}
@@ -13,7 +13,8 @@ use Rattle.ledger_spec.specs.Issuing.{parity_of}
 use Rattle.ledger_spec.specs.Replay.{orders_back, IsReplayed}
 
 -- An order is one that was issued for its row: its count is at most the row's last one, and even for an add token alone;
--- its token is that of the count and the value, and no other count has it; and an add token has at most 995 units.
+-- its token is that of the count and the value, and no other count has it, of those up to 4,095 and up to its own (a
+-- greater count may have it too); and an add token has at most 995 units.
 pub record IsIssued (next : List ℕ → ℕ → ℕ) (row : Row) (order : Order) : Type 0 where
   pub count : order.count ≤ row.last
   pub parity : order.count % 2 ≡ parity_of order.kind

@@ -186,7 +186,8 @@ pub enum Answer {
     Small { have: u64, price: u64 },
     /// Refused: the payment stays below the total, and buys more than 995 units. How many.
     Large { units: u64 },
-    /// Refused: no count above the last one and up to the limit has a token that is that of no other count. The last count.
+    /// Refused: of the counts above the last one and up to the limit, of the kind's parity, none may be issued: each one's
+    /// token is also that of another count, up to 4,095 or up to its own. The last count.
     NoCount { last: u16 },
     /// Refused: the id has no order.
     NoOrder,
@@ -221,9 +222,10 @@ pub enum KeeperFault {
 /// Why a line of the ledger has no command.
 #[derive(Clone, Copy, Debug, PartialEq, Eq)]
 pub enum TextFault {
-    /// The line is no JSON.
+    /// The line has no JSON value. So is answered a line that isn't UTF-8 or isn't JSON, and JSON of which there is no
+    /// reading: it nests deeper than 127, a number in it is too great for a float, or a text has half of a surrogate pair.
     Json,
-    /// The line is JSON, and breaks this rule, the least of those that it breaks: from 1 to 12.
+    /// The line has a JSON value, and breaks this rule, the least of those that it breaks: from 1 to 12.
     Shape { rule: u8 },
     /// There was no memory.
     Memory,

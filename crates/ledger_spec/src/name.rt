@@ -1,13 +1,13 @@
 // Serials of devices and ids of orders.
-ghost use Rattle.std.specs.Prelude.{IfSome, ◌≡◌, ◌≤◌, ℕ, length};
+ghost use Rattle.std.specs.Prelude.{IfSome, ◌≡◌, ◌≤◌, ℕ, true, length};
 ghost use Rattle.std.specs.List.{list_all};
 ghost use Rattle.ledger_spec.specs.Names.{name_in, is_name_byte, same_name, may_be_name};
 ghost use Rattle.ledger_spec.specs.Sorted.{name_before};
 
 use std::marker::Model;
 
-/// A serial of a device, of at most 16 bytes, or an id of an order, of at most 32: each byte is a letter from `A` to `Z` or
-/// from `a` to `z`, a digit, `-` or `_`. It is seen as the list of its bytes.
+/// A serial of a device, of 1 to 16 bytes, or an id of an order, of 1 to 32: each byte is a letter from `A` to `Z` or from
+/// `a` to `z`, a digit, `-` or `_`. There is no other `Name`. It is seen as the list of its bytes.
 #[derive(Clone, Copy, Debug)]
 pub struct Name {
     bytes: [u8; 32],
@@ -16,13 +16,13 @@ pub struct Name {
 
 impl Model for Name {
     ghost use Rattle.std.specs.Prelude.{List, ℕ, length};
-    ghost use Rattle.ledger_spec.specs.NameParts.{IsPadded, front, padded, padded_front, length_front};
+    ghost use Rattle.ledger_spec.specs.NameParts.{HoldsName, front, padded, padded_front, length_front};
 
     ghost Value = { List ℕ };
 
     ghost view = { λ n. front n.size n.bytes };
 
-    ghost invariant = { λ n. IsPadded n.size n.bytes };
+    ghost invariant = { λ n. HoldsName n.size n.bytes };
 
     ghost inverse = { λ name. record { bytes = padded name; size = length name } };
 
@@ -53,7 +53,7 @@ fn is_name(bytes: &[u8], most: usize) -> bool
 impl Name {
     /// The name that these bytes say. None exactly where there are none of them, or more than `most`, which is at most 32,
     /// or where one of them may not stand in a name.
-    #[tactic(auto, using(crate::specs::NameParts::copied_is_padded))]
+    #[tactic(auto, using(crate::specs::NameParts::copied_is_name))]
     pub fn of(bytes: &[u8], most: usize) -> Option<Name>
         requires { most ≤ 32 }
         ensures name { result ≡ name_in most bytes.now }
@@ -70,10 +70,12 @@ impl Name {
         })
     }
 
-    /// Its bytes, of which there is at least one where it came from `of`.
+    /// Its bytes: from 1 to 32, each of them one that a name may have.
     pub fn bytes(&self) -> &[u8]
         ensures bytes { result.now ≡ self.now }
-        ensures len { length result.now ≤ 32 }
+        ensures least { 1 ≤ length result.now }
+        ensures most { length result.now ≤ 32 }
+        ensures allowed { list_all is_name_byte result.now ≡ true }
     {
         &self.bytes[..self.size as usize]
     }

@@ -1,6 +1,5 @@
 // The lines of the ledger's answers.
-ghost use Rattle.std.specs.Prelude.{◌≡◌, ◌+◌, ◌≤◌, ◌<◌, ◌^◌, ◌++◌, [], ◌∷◌, false, length, take, drop, codes};
-ghost use Rattle.ledger_spec.specs.Ledger.{AnswerIsInRange};
+ghost use Rattle.std.specs.Prelude.{◌≡◌, ◌+◌, ◌≤◌, ◌++◌, [], ◌∷◌, false, length, take, drop, codes};
 ghost use Rattle.ledger_spec.specs.AnswerText.{number, with_members, order_members, row_members, change_members, refused_text, text_of_answer, text_of_fault};
 ghost use Rattle.ledger_text.specs.Refusals.{is_refusal};
 
@@ -13,8 +12,7 @@ use paygo_spec::Form;
 
 // The line with an order behind its beginning.
 fn with_order(beginning: Line, order: &Order, form: Form) -> Line
-    requires room { length beginning ≤ 60 }
-    requires token { order.now.token < 10 ^ 9 }
+    requires { length beginning ≤ 60 }
     ensures text { result ≡ with_members beginning (order_members order.now form) ++ codes "}" }
     ensures len { length result ≤ 511 }
 {
@@ -87,8 +85,7 @@ fn small(have: u64, price: u64) -> Line
 // The line of a refusal. The last of them is `NoOrder`.
 #[tactic(auto, unfolding(ledger_spec::specs::AnswerText::text_of_answer))]
 fn refusal_line(answer: &Answer) -> Line
-    requires refusal { is_refusal answer.now }
-    requires in_range { AnswerIsInRange answer.now }
+    requires { is_refusal answer.now }
     ensures text { result ≡ text_of_answer answer.now }
     ensures len { length result ≤ 511 }
 {
@@ -106,13 +103,12 @@ fn refusal_line(answer: &Answer) -> Line
     }
 }
 
-/// The line of an answer, without the end of the line, for which there is room: it has at most 511 bytes.
+/// The line of an answer, without the end of the line, for which there is room: it has at most 511 bytes, whatever the answer
+/// holds.
 ///
-/// An order's token is below 10^9, and stands in the digits that the device's customer types. A device's key isn't
-/// written.
+/// An order's token stands in the digits that the device's customer types. A device's key isn't written.
 #[tactic(auto, unfolding(ledger_spec::specs::AnswerText::text_of_answer))]
 pub fn answer_line(answer: &Answer) -> Line
-    requires { AnswerIsInRange answer.now }
     ensures text { result ≡ text_of_answer answer.now }
     ensures len { length result ≤ 511 }
 {
@@ -140,7 +136,6 @@ pub fn fault_line(fault: &TextFault) -> Line
 
 /// Writes the text of an answer into the front of `out`, whose rest stays as it was, and answers its length.
 pub fn write(answer: &Answer, out: &mut [u8; 512]) -> usize
-    requires { AnswerIsInRange answer.now }
     ensures text { take result out.new ≡ text_of_answer answer.now }
     ensures len { result ≡ length (text_of_answer answer.now) }
     ensures rest { drop result out.new ≡ drop result out.old }

@@ -6,6 +6,7 @@ mod commands;
 mod laws;
 mod lines;
 mod members;
+mod one_line;
 mod orders;
 mod pieces;
 mod rows;
@@ -14,6 +15,7 @@ pub use answers::{answer_line, fault_line, write};
 pub use laws::{key_is_never_written, refused_lines};
 pub use ledger_spec::{Answer, Command, Enrol, TextFault};
 pub use lines::read;
+pub use one_line::{each_answer_is_one_line, each_fault_is_one_line, token_is_digits};
 
 #[cfg(test)]
 mod tests;

@@ -1,5 +1,5 @@
 // What is told of an order.
-ghost use Rattle.std.specs.Prelude.{◌≡◌, ◌+◌, ◌≤◌, ◌<◌, ◌^◌, length, codes};
+ghost use Rattle.std.specs.Prelude.{◌≡◌, ◌+◌, ◌≤◌, length, codes};
 ghost use Rattle.ledger_spec.specs.AnswerText.{text, with_member, with_members, kind_name, number_asked, order_members};
 ghost use Rattle.paygo_spec.specs.Digits.{digits_of};
 
@@ -34,8 +34,7 @@ fn asked(ask: Ask) -> u64
 
 // Puts the token in the digits that the customer types at the end.
 fn push_token(line: &mut Line, form: Form, token: u32)
-    requires token { token < 10 ^ 9 }
-    requires room { length line.old + 48 ≤ 511 }
+    requires { length line.old + 48 ≤ 511 }
     ensures text { line.new ≡ with_member line.old (text (codes "token") (digits_of form token)) }
     ensures len { length line.new ≤ length line.old + 48 }
 {
@@ -46,8 +45,7 @@ fn push_token(line: &mut Line, form: Form, token: u32)
 
 // Puts the members of an order at the end.
 pub(crate) fn push_order(line: &mut Line, order: &Order, form: Form)
-    requires token { order.now.token < 10 ^ 9 }
-    requires room { length line.old ≤ 60 }
+    requires { length line.old ≤ 60 }
     ensures text { line.new ≡ with_members line.old (order_members order.now form) }
     ensures len { length line.new ≤ 354 }
 {

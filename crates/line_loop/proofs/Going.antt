@@ -1,13 +1,12 @@
 -- A whole run: what stays true from turn to turn, and what follows at its end.
 use Rattle.std.proofs.Common.{◌≡◌, ◌≢◌, ◌⊎◌, inl, inr, ℕ, ◌+◌, ◌-◌, ◌^◌, ◌<◌, ◌≤◌, Bool, true, false, List, [], ◌∷◌, ◌++◌, length, Option, Some, None, refl, sym, ap, ◌∙◌, arith, append_assoc, append-nil, length-append, subst}
 use Rattle.std.proofs.lemmas.Bool.{cases_eq}
-use Rattle.std.specs.Io.KnownBytes.{IsAtEnd}
+use Rattle.std.specs.Io.KnownBytes.{prepend_known, IsAtEnd}
 use Rattle.std.specs.Prelude.{IfSome, is_some}
 use Rattle.paygo_spec.specs.declared.Event.{Event}
 use Rattle.paygo_spec.specs.declared.Reply.{Reply}
-use Rattle.paygo_spec.specs.Faults.{raised}
 use Rattle.paygo_spec.specs.Flash.{FlashView}
-use Rattle.paygo_spec.specs.Machine.{State, Stored, StandsAs, Acts, FaultsBy}
+use Rattle.paygo_spec.specs.Machine.{State, Stored, StandsAs, Acts, FaultsBy, calls_of}
 use Rattle.paygo_spec.specs.Pad.{kept_of, no_keys}
 use Rattle.paygo_spec.specs.Recovery.{Recovered, recover}
 use Rattle.paygo_spec.specs.Streams.{SourceView, SinkView}
@@ -20,37 +19,21 @@ use Rattle.run_spec.specs.declared.Status.{Status}
 use Rattle.run_spec.specs.declared.Status.TheVariants as status
 use Rattle.run_spec.specs.Run.{World, beginning}
 use Rattle.run_spec.specs.Unseen.{ActsUnseen}
-use Rattle.run_spec.specs.Ran.{Agree, uses_keeper, uses_flash}
+use Rattle.run_spec.specs.Ran.{Agree, SpendsBy, uses_keeper, uses_flash}
+use Rattle.run_laws.proofs.Between.{counts_once}
 use Rattle.run_laws.proofs.Faults.{acts_count, unseen_count, downs_counted_by}
 use Rattle.device_core.specs.declared.device.Device.{Device}
 use Rattle.device_core.specs.Memory.{Agrees, Recalls, Backs, Holds, found_by, is_on}
 use Rattle.bench_run.specs.Reader.{LinesView, Came, IsLine}
-use Rattle.bench_run.specs.Bench.{desk, IsAt}
-use Rattle.bench_run.proofs.Gathering.{raised-raised}
-use Rattle.bench_run.proofs.Runs.{agree_at}
+use Rattle.bench_run.specs.Bench.{desk, IsAt, unsaid}
+use Rattle.bench_run.proofs.Gathering.{nothing-more, prepend-append}
+use Rattle.bench_run.proofs.Runs.{agree_at, run_spent}
 use Rattle.line_loop.specs.Runs.{Causes, IsLong, StaysAside, Reads, Ran, RunOf, RunUnseen}
 use Rattle.line_loop.specs.Turn.{Parts, Turns, Turned}
-use Rattle.line_loop.proofs.Looping.{out, next_left, SoFar, Ended, went_on, run_ends}
-use Rattle.line_loop.proofs.Promising.{stand, promise, same_device}
+use Rattle.line_loop.proofs.Looping.{out, SoFar, Ended, went_on, run_ends}
+use Rattle.line_loop.proofs.Promising.{stand, sound, promise, same_device}
 use Rattle.line_loop.proofs.Sides.{aside}
 use Rattle.line_loop.proofs.Turning.{calm, causes_then}
-
--- What was read up to here of a source that tells its bytes.
-pub record SoRead (bytes : List ℕ) (lines : LinesView) (source : SourceView) : Type 0 where
-  pub taken : List ℕ
-  pub rest : List ℕ
-  pub split : bytes ≡ taken ++ rest
-  pub left : source.left ≡ Some rest
-  pub counted : length taken ≡ lines.taken
-
-none_left : (left : Option (List ℕ)) (rest : List ℕ) → IsAtEnd left → left ≡ Some rest → rest ≡ []
-none_left None rest at_end is = cc
-none_left (Some known) rest at_end is = let same : known ≡ rest = cc in sym same ∙ at_end
-
-reads_of : (result : Status) (bytes : List ℕ) (lines : LinesView) (source : SourceView) → lines.taken ≤ 2 ^ 40 → (was : SoRead bytes lines source) → (result ≡ status.Ok → was.rest ≡ [])
-    → (result ≡ status.Long → length was.taken ≡ 2 ^ 40) → Reads result bytes source
-reads_of result bytes lines source most was ok long =
-    record { taken = was.taken; rest = was.rest; split = was.split; left = was.left; most = omega (arith, most, was.counted); ok = ok; long = long }
 
 -- what stands at the end of a run, by what a device and its flash stand for, has the flash's count of faults: also where the
 -- run leaves the flash out
@@ -61,32 +44,37 @@ count_now mode_is.Device start now flash first counts aside same begun = counts 
 count_now mode_is.Both start now flash first counts aside same begun = counts refl
 
 -- What a run stands for at its end.
-record IsRan (acts : Event → Option Reply → State → State → Type 0) (stands : Device → FlashView → State → Type 0) (next : List ℕ → ℕ → ℕ) (mode : Mode) (result : Status) (bytes before : List ℕ) (start : World) (new : Parts)
-    (ends : Ended acts stands next mode result bytes before start new) (ran : Ran acts next mode result bytes before start (out new)) : Type 0 where
+record IsRan (acts : Event → Option Reply → State → State → Type 0) (stands : Device → FlashView → State → Type 0) (calls : State → Event → Option ℕ) (next : List ℕ → ℕ → ℕ) (mode : Mode) (result : Status) (start : World) (first new : Parts)
+    (ends : Ended acts stands calls next mode result first.source.given first.desk start new) (ran : Ran acts next mode result start (out first) (out new)) : Type 0 where
   is_at : IsAt stands mode new.desk ran.now
+  spent : SpendsBy acts calls next start ran.steps ran.answers ran.reached first.desk.flash.due new.desk.flash.due
+
+-- What was handed out up to here.
+pub record SoRead (lines : LinesView) (old now : SourceView) : Type 0 where
+  pub taken : List ℕ
+  pub given : now.given ≡ old.given ++ taken
+  pub left : old.left ≡ prepend_known taken now.left
+  pub counted : length taken ≡ lines.taken
 
 -- What stays true from turn to turn.
 pub record Going (next : List ℕ → ℕ → ℕ) (mode : Mode) (old now : Parts) : Type 0 where
   pub budget : now.lines.budget ≡ 2 ^ 40
   pub most : now.lines.taken ≤ now.lines.budget
-  pub taken : now.source.taken ≡ raised old.source.taken now.lines.taken
   pub unended : now.lines.ended ≡ false → 0 < now.lines.taken → now.source.ended ≡ false
   pub ended : now.lines.ended ≡ true → (now.source.ended ≡ true) × IsAtEnd now.source.left
-  pub so_read : (bytes : List ℕ) → old.source.left ≡ Some bytes → SoRead bytes now.lines now.source
+  pub so_read : SoRead now.lines old.source now.source
   pub causes : Causes None (out old) (out now)
-  pub seen : (bytes before : List ℕ) (start : World) → old.source.left ≡ Some bytes → old.desk.sink.written ≡ Some before → IsAt Agrees mode old.desk start → SoFar (Acts next) Agrees next mode bytes before start now
-  pub unseen : (bytes before : List ℕ) (start : World) → old.source.left ≡ Some bytes → old.desk.sink.written ≡ Some before → IsAt Recalls mode old.desk start → SoFar (ActsUnseen next) Recalls next mode bytes before start now
+  pub seen : (start : World) → IsAt Agrees mode old.desk start → SoFar (Acts next) Agrees (calls_of next) next mode old.source.given old.desk start now
+  pub unseen : (start : World) → IsAt Recalls mode old.desk start → SoFar (ActsUnseen next) Recalls unsaid next mode old.source.given old.desk start now
 
 -- nothing was done yet
-none_yet : (acts : Event → Option Reply → State → State → Type 0) (stands : Device → FlashView → State → Type 0) (next : List ℕ → ℕ → ℕ) (mode : Mode) (old : Parts) → old.lines ≡ record { budget = 2 ^ 40; taken = 0; held = []; ended = false } → (bytes before : List ℕ) (start : World) → old.source.left ≡ Some bytes
-    → old.desk.sink.written ≡ Some before → IsAt stands mode old.desk start → SoFar acts stands next mode bytes before start old
-none_yet acts stands next mode old lines bytes before start left written is_at = record {
+none_yet : (acts : Event → Option Reply → State → State → Type 0) (stands : Device → FlashView → State → Type 0) (calls : State → Event → Option ℕ) (next : List ℕ → ℕ → ℕ) (mode : Mode) (old : Parts) → old.lines ≡ record { budget = 2 ^ 40; taken = 0; held = []; ended = false } → (start : World)
+    → IsAt stands mode old.desk start → SoFar acts stands calls next mode old.source.given old.desk start old
+none_yet acts stands calls next mode old lines start is_at = record {
   gone = [];
-  rest = bytes;
-  split = sym (ap (λ (l : LinesView). l.held ++ bytes) lines);
-  left = left;
+  given_are = sym (append-nil old.source.given) ∙ ap (λ (l : LinesView). old.source.given ++ l.held) (sym lines);
   steps = [];
-  done = record { answers = []; now = start; run = refl; is_at = is_at; written = written ∙ ap Some (sym (append-nil before)) };
+  done = record { answers = []; now = start; run = (refl, refl); is_at = is_at; written = sym (append-nil old.desk.sink.written) };
   place = inl (refl, refl);
 }
 
@@ -95,19 +83,15 @@ pub begins : (next : List ℕ → ℕ → ℕ) (mode : Mode) (old : Parts) → o
 begins next mode old lines = record {
   budget = ap (λ (l : LinesView). l.budget) lines;
   most = omega (arith, ap (λ (l : LinesView). l.budget) lines, ap (λ (l : LinesView). l.taken) lines);
-  taken = omega (arith, ap (λ (l : LinesView). l.taken) lines);
   unended = λ e some. absurd (omega (arith, some, ap (λ (l : LinesView). l.taken) lines));
   ended = λ e. absurd (let both : false ≡ true = sym (ap (λ (l : LinesView). l.ended) lines) ∙ e in cc);
-  so_read = λ bytes left. record { taken = []; rest = bytes; split = refl; left = left; counted = sym (ap (λ (l : LinesView). l.taken) lines) };
+  so_read = record { taken = []; given = sym (append-nil old.source.given); left = nothing-more old.source.left; counted = sym (ap (λ (l : LinesView). l.taken) lines) };
   causes = calm (out old);
-  seen = none_yet (Acts next) Agrees next mode old lines;
-  unseen = none_yet (ActsUnseen next) Recalls next mode old lines;
+  seen = none_yet (Acts next) Agrees (calls_of next) next mode old lines;
+  unseen = none_yet (ActsUnseen next) Recalls unsaid next mode old lines;
 }
 
 module _ (next : List ℕ → ℕ → ℕ) (mode : Mode) (first old new : Parts) (going : Going next mode first old) (came : List ℕ) (counts : Came came old.lines new.lines old.source new.source) where
-  taken_by : new.source.taken ≡ raised first.source.taken new.lines.taken
-  taken_by = counts.taken ∙ ap (λ n. raised n (length came)) going.taken ∙ raised-raised first.source.taken old.lines.taken (length came) ∙ ap (raised first.source.taken) (sym counts.counted)
-
   still_unended : old.lines.ended ≡ false → new.lines.ended ≡ false → 0 < new.lines.taken → (length came ≡ 0) ⊎ (length came ≢ 0) → new.source.ended ≡ false
   still_unended was un some (inl none) = counts.same un none ∙ going.unended was (omega (arith, some, counts.counted, none))
   still_unended was un some (inr more) = counts.unended un more
@@ -123,33 +107,34 @@ module _ (next : List ℕ → ℕ → ℕ) (mode : Mode) (first old new : Parts)
   told_by false e told = counts.told e told
   told_by true e told = subst (λ (s : SourceView). (s.ended ≡ true) × IsAtEnd s.left) (sym (counts.unread e)) (going.ended e)
 
-  -- the bytes read up to now
-  read_now : (bytes : List ℕ) → first.source.left ≡ Some bytes → SoRead bytes new.lines new.source
-  read_now bytes left =
-      let was = going.so_read bytes left in
-      let more = next_left new.source.left was.rest came (sym was.left ∙ counts.left) in
+  -- the bytes handed out up to now
+  read_now : SoRead new.lines first.source new.source
+  read_now =
+      let was = going.so_read in
       record {
         taken = was.taken ++ came;
-        rest = more.0;
-        split = was.split ∙ ap (λ l. was.taken ++ l) more.2 ∙ sym (append_assoc was.taken came more.0);
-        left = more.1;
+        given = counts.given ∙ ap (λ l. l ++ came) was.given ∙ append_assoc first.source.given was.taken came;
+        left = was.left ∙ ap (prepend_known was.taken) counts.left ∙ prepend-append was.taken came new.source.left;
         counted = length-append was.taken came ∙ ap (λ n. n + length came) was.counted ∙ sym counts.counted;
       }
+
+  -- so many more than before
+  length_now : length new.source.given ≡ length first.source.given + new.lines.taken
+  length_now = ap length read_now.given ∙ length-append first.source.given read_now.taken ∙ ap (λ n. length first.source.given + n) read_now.counted
 
   -- a turn that goes on
   pub keeps_going : Causes None (out old) (out new) → Turns next mode None came old new → Going next mode first new
   keeps_going causes turns = record {
     budget = counts.budget ∙ going.budget;
     most = counts.most;
-    taken = taken_by;
     unended = unended_now;
     ended = told_by old.lines.ended refl;
     so_read = read_now;
     causes = causes_then None (out first) (out old) (out new) going.causes causes;
-    seen = λ bytes before start left written is_at.
-        went_on (Acts next) Agrees next mode bytes before start old new (going.seen bytes before start left written is_at) came counts turns.line turns.is_line turns.works.seen;
-    unseen = λ bytes before start left written is_at.
-        went_on (ActsUnseen next) Recalls next mode bytes before start old new (going.unseen bytes before start left written is_at) came counts turns.line turns.is_line turns.works.unseen;
+    seen = λ start is_at.
+        went_on (Acts next) Agrees (calls_of next) next mode first.source.given first.desk start old new (going.seen start is_at) came counts turns.line turns.is_line turns.ahead turns.works.seen;
+    unseen = λ start is_at.
+        went_on (ActsUnseen next) Recalls unsaid next mode first.source.given first.desk start old new (going.unseen start is_at) came counts turns.line turns.is_line turns.ahead turns.works.unseen;
   }
 
   pub told_now : new.lines.ended ≡ true → new.source.ended ≡ true
@@ -163,93 +148,94 @@ module _ (next : List ℕ → ℕ → ℕ) (mode : Mode) (first old new : Parts)
   forty : new.lines.budget ≡ 2 ^ 40
   forty = counts.budget ∙ going.budget
 
-  full_only : new.lines.taken ≡ new.lines.budget → new.lines.ended ≡ false → (new.source.ended ≡ false) × (new.source.taken ≡ raised first.source.taken (2 ^ 40))
-  full_only full un = (unended_now un (omega (arith, full, forty)), taken_by ∙ ap (raised first.source.taken) (full ∙ forty))
+  full_only : new.lines.taken ≡ new.lines.budget → new.lines.ended ≡ false → (new.source.ended ≡ false) × (length new.source.given ≡ length first.source.given + 2 ^ 40)
+  full_only full un = (unended_now un (omega (arith, full, forty)), length_now ∙ ap (λ n. length first.source.given + n) (full ∙ forty))
 
-  not_full : new.lines.taken < new.lines.budget → new.source.taken ≡ raised first.source.taken (2 ^ 40) → new.source.taken < 2 ^ 64 - 1 → ⊥
-  not_full less all small = short first.source.taken new.lines.taken new.source.taken (omega (arith, less, forty)) taken_by all small
-    where
-      short : (count taken now : ℕ) → taken < 2 ^ 40 → now ≡ raised count taken → now ≡ raised count (2 ^ 40) → now < 2 ^ 64 - 1 → ⊥
-      short count taken now less is all small = omega (arith, less, is, all, small)
+  not_full : new.lines.taken < new.lines.budget → length new.source.given ≡ length first.source.given + 2 ^ 40 → ⊥
+  not_full less all = omega (arith, less, forty, length_now, all)
 
   pub is_long : (result : Status) → Turns next mode (Some result) came old new → IsLong result first.source new.source
   is_long status.Ok turns = record {
     only = λ e. cc;
-    always = λ un all small other. absurd (let both : true ≡ false = sym (told_now turns.2) ∙ un in cc);
+    always = λ un all other. absurd (let both : true ≡ false = sym (told_now turns.2) ∙ un in cc);
   }
   is_long status.Usage turns = absurd turns
-  is_long status.Read turns = record { only = λ e. cc; always = λ un all small other. absurd (not_full turns.1 all small) }
-  is_long status.Write turns = record { only = λ e. cc; always = λ un all small other. absurd (other tt) }
-  is_long status.Keep turns = record { only = λ e. cc; always = λ un all small other. absurd (other tt) }
-  is_long status.Memory turns = record { only = λ e. cc; always = λ un all small other. absurd (other tt) }
-  is_long status.Long turns = record { only = λ e. full_only turns.1 turns.2; always = λ un all small other. refl }
+  is_long status.Read turns = record { only = λ e. cc; always = λ un all other. absurd (not_full turns.1 all) }
+  is_long status.Write turns = record { only = λ e. cc; always = λ un all other. absurd (other tt) }
+  is_long status.Keep turns = record { only = λ e. cc; always = λ un all other. absurd (other tt) }
+  is_long status.Memory turns = record { only = λ e. cc; always = λ un all other. absurd (other tt) }
+  is_long status.Long turns = record { only = λ e. full_only turns.1 turns.2; always = λ un all other. refl }
 
   -- what was read where the run ends
   at_most : new.lines.taken ≤ 2 ^ 40
   at_most = omega (arith, counts.most, forty)
 
-  all_read : (rest : List ℕ) → new.lines.ended ≡ true → new.source.left ≡ Some rest → rest ≡ []
-  all_read rest ended left = none_left new.source.left rest (told_by old.lines.ended refl ended).1 left
+  reads_of : (result : Status) → (result ≡ status.Ok → IsAtEnd new.source.left) → (result ≡ status.Long → length read_now.taken ≡ 2 ^ 40) → Reads result first.source new.source
+  reads_of result ok long =
+      record { taken = read_now.taken; given = read_now.given; left = read_now.left; most = omega (arith, at_most, read_now.counted); ok = ok; long = long }
 
-  by_status : (result : Status) → Turns next mode (Some result) came old new → (bytes : List ℕ) → SoRead bytes new.lines new.source → Reads result bytes new.source
-  by_status status.Ok turns bytes was = reads_of status.Ok bytes new.lines new.source at_most was (λ e. all_read was.rest turns.2 was.left) (λ e. cc)
-  by_status status.Usage turns bytes was = absurd turns
-  by_status status.Long turns bytes was = reads_of status.Long bytes new.lines new.source at_most was (λ e. cc) (λ e. was.counted ∙ turns.1 ∙ forty)
-  by_status status.Read turns bytes was = reads_of status.Read bytes new.lines new.source at_most was (λ e. cc) (λ e. cc)
-  by_status status.Write turns bytes was = reads_of status.Write bytes new.lines new.source at_most was (λ e. cc) (λ e. cc)
-  by_status status.Keep turns bytes was = reads_of status.Keep bytes new.lines new.source at_most was (λ e. cc) (λ e. cc)
-  by_status status.Memory turns bytes was = reads_of status.Memory bytes new.lines new.source at_most was (λ e. cc) (λ e. cc)
-
-  pub reads : (result : Status) → Turns next mode (Some result) came old new → (bytes : List ℕ) → first.source.left ≡ Some bytes → Reads result bytes new.source
-  reads result turns bytes left = by_status result turns bytes (read_now bytes left)
+  pub reads : (result : Status) → Turns next mode (Some result) came old new → Reads result first.source new.source
+  reads status.Ok turns = reads_of status.Ok (λ e. (told_by old.lines.ended refl turns.2).1) (λ e. cc)
+  reads status.Usage turns = absurd turns
+  reads status.Long turns = reads_of status.Long (λ e. cc) (λ e. read_now.counted ∙ turns.1 ∙ forty)
+  reads status.Read turns = reads_of status.Read (λ e. cc) (λ e. cc)
+  reads status.Write turns = reads_of status.Write (λ e. cc) (λ e. cc)
+  reads status.Keep turns = reads_of status.Keep (λ e. cc) (λ e. cc)
+  reads status.Memory turns = reads_of status.Memory (λ e. cc) (λ e. cc)
 
   -- what became of the whole run
-  whole : (acts : Event → Option Reply → State → State → Type 0) (stands : Device → FlashView → State → Type 0) → ((event : Event) (reply : Option Reply) (old new : State) → acts event reply old new → FaultsBy reply old.faults new.faults) → ((device : Device) (flash : FlashView) (state : State) → stands device flash state → state.faults ≡ flash.faults)
-      → (mode ≡ mode_is.Serve → new.desk.flash ≡ first.desk.flash) → (result : Status) (bytes before : List ℕ) (start : World) → start.device.faults ≡ first.desk.flash.faults
-      → (ends : Ended acts stands next mode result bytes before start new) → (ran : Ran acts next mode result bytes before start (out new)) × IsRan acts stands next mode result bytes before start new ends ran
-  whole acts stands by_reply counted same result bytes before start begun ends =
+  whole : (acts : Event → Option Reply → State → State → Type 0) (stands : Device → FlashView → State → Type 0) (calls : State → Event → Option ℕ) → ((event : Event) (reply : Option Reply) (old new : State) → acts event reply old new → FaultsBy reply old.faults new.faults) → ((device : Device) (flash : FlashView) (state : State) → stands device flash state → state.faults ≡ flash.faults)
+      → (mode ≡ mode_is.Serve → new.desk.flash ≡ first.desk.flash) → (result : Status) (start : World) → start.device.faults ≡ first.desk.flash.faults
+      → (ends : Ended acts stands calls next mode result first.source.given first.desk start new) → (ran : Ran acts next mode result start (out first) (out new)) × IsRan acts stands calls next mode result start first new ends ran
+  whole acts stands calls by_reply counted same result start begun ends =
+      let run = run_spent acts calls next start ends.reached ends.steps ends.answers first.desk.flash.due new.desk.flash.due ends.run in
       let stays = same_device next mode result new.source.ended ends.taken ends.steps ends.reached ends.world ends.ends in
-      let sides = aside acts next mode result new.source.ended ends.taken ends.steps ends.answers start ends.reached ends.world ends.run ends.ends stays in
+      let sides = aside acts next mode result new.source.ended ends.taken ends.steps ends.answers start ends.reached ends.world run ends.ends stays in
       let count : new.desk.flash.faults ≡ ends.reached.device.faults =
       sym (count_now mode start ends.world new.desk.flash first.desk.flash (λ uses. counted new.desk.device new.desk.flash ends.world.device (ends.is_at.device uses)) sides same begun) ∙ ap (λ (s : State). s.faults) stays in (
         record {
           taken = ends.taken;
-          rest = ends.rest;
-          split = ends.split;
-          left = ends.left;
+          given = ends.given_are;
           steps = ends.steps;
           answers = ends.answers;
           reached = ends.reached;
-          run = ends.run;
+          run = run;
           now = ends.world;
           ends = ends.ends;
           written = ends.written;
           aside = sides;
-          downs_are = count ∙ downs_counted_by acts by_reply next start ends.reached ends.steps ends.answers ends.run;
+          downs_are = count ∙ downs_counted_by acts by_reply next start ends.reached ends.steps ends.answers run;
         },
-        record { is_at = ends.is_at },
+        record { is_at = ends.is_at; spent = ends.run },
       )
 
   pub run_of : (below : StaysBelow next) (same : mode ≡ mode_is.Serve → new.desk.flash ≡ first.desk.flash) (result : Status) → Turns next mode (Some result) came old new
-      → (bytes before : List ℕ) (start : World) → first.source.left ≡ Some bytes → first.desk.sink.written ≡ Some before → start.device.faults ≡ first.desk.flash.faults
-      → IsAt Agrees mode first.desk start → RunOf next mode result bytes before start (out new)
-  run_of below same result turns bytes before start left written begun is_at =
-      let ends = run_ends (Acts next) Agrees next mode bytes before start old new (going.seen bytes before start left written is_at) came counts (λ steps result works. works.seen) told_now result turns in
-      let ran = whole (Acts next) Agrees (acts_count next) (λ device flash state agrees. agrees.stand.faults) same result bytes before start begun ends in
+      → (start : World) → start.device.faults ≡ first.desk.flash.faults
+      → IsAt Agrees mode first.desk start → RunOf next mode result start (out first) (out new)
+  run_of below same result turns start begun is_at =
+      let ends = run_ends (Acts next) Agrees (calls_of next) next mode first.source.given first.desk start old new (going.seen start is_at) came counts (λ steps result works. works.seen) told_now result turns in
+      let ran = whole (Acts next) Agrees (calls_of next) (acts_count next) (λ device flash state agrees. agrees.stand.faults) same result start begun ends in
       record {
         ran = ran.0;
         agree = agree_at mode new.desk ran.0.now ran.1.is_at;
-        stand = stand next below mode result new.source.ended ran.0.taken ran.0.steps ran.0.answers start ran.0.reached ran.0.now ran.0.run ran.0.ends;
+        calls = ran.1.spent;
+        stand = stand next below (Acts next) mode result new.source.ended ran.0.taken ran.0.steps ran.0.answers start ran.0.reached ran.0.now ran.0.run ran.0.ends;
         promise = promise next below mode result new.source.ended ran.0.taken ran.0.steps ran.0.answers start ran.0.reached ran.0.now ran.0.run ran.0.ends;
       }
 
-  pub run_unseen : (same : mode ≡ mode_is.Serve → new.desk.flash ≡ first.desk.flash) (result : Status) → Turns next mode (Some result) came old new
-      → (bytes before : List ℕ) (start : World) → first.source.left ≡ Some bytes → first.desk.sink.written ≡ Some before → start.device.faults ≡ first.desk.flash.faults
-      → IsAt Recalls mode first.desk start → RunUnseen next mode result bytes before start (out new)
-  run_unseen same result turns bytes before start left written begun is_at =
-      let ends = run_ends (ActsUnseen next) Recalls next mode bytes before start old new (going.unseen bytes before start left written is_at) came counts (λ steps result works. works.unseen) told_now result turns in
-      let ran = whole (ActsUnseen next) Recalls (unseen_count next) (λ device flash state recalls. recalls.faults_are) same result bytes before start begun ends in
-      record { ran = ran.0; tables = ran.1.is_at.tables }
+  pub run_unseen : (below : StaysBelow next) (same : mode ≡ mode_is.Serve → new.desk.flash ≡ first.desk.flash) (result : Status) → Turns next mode (Some result) came old new
+      → (start : World) → start.device.on ≡ false → start.device.faults ≡ first.desk.flash.faults
+      → IsAt Recalls mode first.desk start → RunUnseen next mode result start (out first) (out new)
+  run_unseen below same result turns start off begun is_at =
+      let ends = run_ends (ActsUnseen next) Recalls unsaid next mode first.source.given first.desk start old new (going.unseen start is_at) came counts (λ steps result works. works.unseen) told_now result turns in
+      let ran = whole (ActsUnseen next) Recalls unsaid (unseen_count next) (λ device flash state recalls. recalls.faults_are) same result start begun ends in
+      record {
+        ran = ran.0;
+        tables = ran.1.is_at.tables;
+        stand = stand next below (ActsUnseen next) mode result new.source.ended ran.0.taken ran.0.steps ran.0.answers start ran.0.reached ran.0.now ran.0.run ran.0.ends;
+        sound = sound next below (ActsUnseen next) mode result new.source.ended ran.0.taken ran.0.steps ran.0.answers start ran.0.reached ran.0.now ran.0.run ran.0.ends;
+        once = counts_once next start ran.0.reached ran.0.steps ran.0.answers (λ on. absurd (let both : true ≡ false = sym on ∙ off in cc)) ran.0.run;
+      }
 
 -- What is promised of a whole run, where it ends with this status.
 pub record Promised (next : List ℕ → ℕ → ℕ) (mode : Mode) (result : Status) (first new : Parts) : Type 0 where
@@ -258,19 +244,19 @@ pub record Promised (next : List ℕ → ℕ → ℕ) (mode : Mode) (result : St
   pub told : result ≡ status.Ok → new.source.ended ≡ true
   pub causes : Causes (Some result) (out first) (out new)
   pub long : IsLong result first.source new.source
-  pub read : (bytes : List ℕ) → first.source.left ≡ Some bytes → Reads result bytes new.source
-  pub run : (bytes before : List ℕ) (start : World) → first.source.left ≡ Some bytes → first.desk.sink.written ≡ Some before → start.device.faults ≡ first.desk.flash.faults → IsAt Agrees mode first.desk start
-      → RunOf next mode result bytes before start (out new)
-  pub unseen : (bytes before : List ℕ) (start : World) → first.source.left ≡ Some bytes → first.desk.sink.written ≡ Some before → start.device.faults ≡ first.desk.flash.faults → IsAt Recalls mode first.desk start
-      → RunUnseen next mode result bytes before start (out new)
+  pub read : Reads result first.source new.source
+  pub run : (start : World) → start.device.faults ≡ first.desk.flash.faults → IsAt Agrees mode first.desk start
+      → RunOf next mode result start (out first) (out new)
+  pub unseen : (start : World) → start.device.on ≡ false → start.device.faults ≡ first.desk.flash.faults → IsAt Recalls mode first.desk start
+      → RunUnseen next mode result start (out first) (out new)
 
 not_usage : (next : List ℕ → ℕ → ℕ) (mode : Mode) (came : List ℕ) (old new : Parts) (result : Status) → Turns next mode (Some result) came old new → result ≢ status.Usage
 not_usage next mode came old new status.Usage turns = absurd turns
 not_usage next mode came old new _ turns = λ e. cc
 
 not_ledger : (next : List ℕ → ℕ → ℕ) (mode : Mode) (came : List ℕ) (old new : Parts) (result : Status) → Turns next mode (Some result) came old new → mode ≡ mode_is.Device → (result ≢ status.Keep) × (result ≢ status.Memory)
-not_ledger next mode came old new status.Keep turns is = absurd ((turns.ledger tt).0 is)
-not_ledger next mode came old new status.Memory turns is = absurd ((turns.ledger tt).0 is)
+not_ledger next mode came old new status.Keep turns is = absurd ((turns.ledger tt).takes is)
+not_ledger next mode came old new status.Memory turns is = absurd ((turns.ledger tt).takes is)
 not_ledger next mode came old new _ turns is = (λ e. cc, λ e. cc)
 
 pub ends : (next : List ℕ → ℕ → ℕ) (mode : Mode) (first old new : Parts) (result : Status) → Going next mode first old → Turned next mode (Some result) old new
@@ -283,7 +269,7 @@ ends next mode first old new result going turned blames below same = record {
   long = is_long next mode first old new going turned.came turned.counts result turned.turns;
   read = reads next mode first old new going turned.came turned.counts result turned.turns;
   run = run_of next mode first old new going turned.came turned.counts below same result turned.turns;
-  unseen = run_unseen next mode first old new going turned.came turned.counts same result turned.turns;
+  unseen = run_unseen next mode first old new going turned.came turned.counts below same result turned.turns;
 }
 
 -- a turn that took a line brings the run nearer to its end

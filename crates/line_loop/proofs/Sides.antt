@@ -17,7 +17,7 @@ use Rattle.paygo_spec.specs.Machine.{State}
 use Rattle.run_spec.specs.Run.{Step, Say, Do, Act, Answer, Said, Did, Told, World, RunBy, MayAnswerBy}
 use Rattle.run_spec.specs.Meaning.{trimmed, steps_of_ledger, steps_of_device, steps_of_text, steps_of_line, step_of_reading}
 use Rattle.run_spec.specs.Meaning.{steps_of}
-use Rattle.run_spec.specs.Ran.{lines_taken, EndsBy}
+use Rattle.run_spec.specs.Ran.{EndsBy}
 use Rattle.run_spec.specs.DeviceLines.{events_in}
 use Rattle.line_loop.specs.Runs.{StaysAside}
 
@@ -82,8 +82,11 @@ taken : (next : List ℕ → ℕ → ℕ) (P : Step → Type 0) (mode : Mode) �
 taken next P mode each status.Ok ended bytes steps reached now ends = subst (Each P) (sym ends.0) (of_lines P mode each (all_lines bytes))
 taken next P mode each status.Usage ended bytes steps reached now ends = absurd ends
 taken next P mode each status.Read ended bytes steps reached now ends = subst (Each P) (sym ends.0) (of_lines P mode each (whole_lines bytes))
-taken next P mode each status.Write ended bytes steps reached now ends = each_front P steps ends.0.0 (subst (Each P) ends.0.1 (of_lines P mode each (lines_taken ended bytes)))
-taken next P mode each status.Keep ended bytes steps reached now ends = subst (Each P) (sym ends.1.steps_are) (of_lines P mode each ends.1.earlier)
+taken next P mode each status.Write ended bytes steps reached now ends =
+    let within = ends.0.1 in
+    subst (Each P) (sym within.steps_are)
+    (each-append P (steps_of mode within.earlier) within.front (of_lines P mode each within.earlier) (each_front P within.front within.others (subst (Each P) within.own (each ends.0.0))))
+taken next P mode each status.Keep ended bytes steps reached now ends = subst (Each P) (sym ends.2.steps_are) (of_lines P mode each ends.2.earlier)
 taken next P mode each status.Memory ended bytes steps reached now ends = subst (Each P) (sym ends.0.1.steps_are) (of_lines P mode each ends.0.1.earlier)
 taken next P mode each status.Long ended bytes steps reached now ends = subst (Each P) (sym ends.0) (of_lines P mode each (whole_lines bytes))
 
@@ -128,8 +131,7 @@ reached_tables next status.Read ended bytes steps reached now ends = ap (λ (w :
 reached_tables next status.Write ended bytes steps reached now ends = ap (λ (w : World). w.tables) ends.1
 reached_tables next status.Memory ended bytes steps reached now ends = ap (λ (w : World). w.tables) ends.1
 reached_tables next status.Long ended bytes steps reached now ends = ap (λ (w : World). w.tables) ends.1
-reached_tables next status.Keep ended bytes steps reached now (line, before, inl same) = ap (λ (w : World). w.tables) same
-reached_tables next status.Keep ended bytes steps reached now (line, before, inr (command, is, range, change)) = absurd (one_command command (subst (Each IsNoCommand) is (device_line line)))
+reached_tables next status.Keep ended bytes steps reached now (line, command, before, asks, change) = absurd (one_command command (subst (Each IsNoCommand) asks.alone (device_line line)))
 
 -- what a run leaves out stays
 pub aside : (acts : Event → Option Reply → State → State → Type 0) (next : List ℕ → ℕ → ℕ) (mode : Mode) (result : Status) (ended : Bool) (bytes : List ℕ) (steps : List Step) (answers : List (Option Answer)) (start reached now : World)

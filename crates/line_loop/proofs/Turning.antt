@@ -1,33 +1,37 @@
 -- A turn that took a line.
-use Rattle.std.proofs.Common.{◌≡◌, ◌≢◌, ℕ, ◌<◌, Bool, true, false, List, [], ◌∷◌, ◌++◌, length, Ok, Err, Result, Option, None, refl, ap, ◌∙◌, subst, arith}
+use Rattle.std.proofs.Common.{◌≡◌, ℕ, ◌<◌, ◌≤◌, Bool, true, false, List, [], ◌∷◌, ◌++◌, length, take, Ok, Err, Result, Option, None, refl, ap, ◌∙◌, subst, arith}
 use Rattle.std.specs.Prelude.{codes, nat_lt}
 use Rattle.std.specs.Fmt.{decimal}
 use Rattle.std.proofs.lemmas.Bool.Decides.{nat_tests}
+use Rattle.std.proofs.lemmas.List.{length-take}
 use Rattle.run_spec.specs.declared.Mode.{Mode}
-use Rattle.run_spec.specs.declared.Mode.TheVariants as mode_is
 use Rattle.run_spec.specs.declared.Status.{Status}
 use Rattle.paygo_spec.specs.Faults.{Rose, Counted}
 use Rattle.paygo_spec.specs.Flash.{FlashView, KeepsPlan}
 use Rattle.paygo_spec.proofs.Plans.{plan_stays, plan_then}
 use Rattle.ledger_spec.specs.Keeper.{KeeperView}
 use Rattle.run_spec.specs.Run.{Say}
-use Rattle.run_spec.specs.Meaning.{is_ledger_text, trimmed, steps_of_line}
-use Rattle.paygo_outside.specs.declared.sink.WriteFault.{WriteFault}
+use Rattle.run_spec.specs.Meaning.{steps_of_line}
+use Rattle.paygo_ports.specs.declared.sink.WriteFault.{WriteFault}
 use Rattle.bench_run.specs.declared.bench.LineFault.{LineFault}
 use Rattle.bench_run.specs.declared.bench.LineFault.TheVariants as fault
 use Rattle.bench_run.specs.Reader.{Came, IsLine}
 use Rattle.bench_run.specs.Bench.{Works, HasCauses, IsLedgerFault, of_line}
 use Rattle.line_loop.specs.Runs.{Outside, FaultIf, Causes, is_read, is_write, is_keep}
-use Rattle.line_loop.specs.Turn.{Parts, Turned, ended_by}
+use Rattle.line_loop.specs.Turn.{Parts, IsOfLedger, Turned, ended_by}
 
 -- a line was taken, and the run goes on or ends by what became of it
 pub took : (next : List ℕ → ℕ → ℕ) (mode : Mode) (outcome : Result (Unit {0}) LineFault) (came line : List ℕ) (old new : Parts) → Came came old.lines new.lines old.source new.source
-    → IsLine (old.lines.held ++ came) line new.lines → Works next mode (steps_of_line mode line) outcome old.desk new.desk
-    → (IsLedgerFault outcome → (mode ≢ mode_is.Device) × (is_ledger_text (trimmed line) ≡ true)) → Turned next mode (ended_by outcome) old new
-took next mode (Ok done) came line old new counts is works ledger = record { came = came; counts = counts; turns = record { line = line; is_line = is; works = works; ledger = ledger } }
-took next mode (Err fault.Write) came line old new counts is works ledger = record { came = came; counts = counts; turns = record { line = line; is_line = is; works = works; ledger = ledger } }
-took next mode (Err fault.Keep) came line old new counts is works ledger = record { came = came; counts = counts; turns = record { line = line; is_line = is; works = works; ledger = ledger } }
-took next mode (Err fault.Memory) came line old new counts is works ledger = record { came = came; counts = counts; turns = record { line = line; is_line = is; works = works; ledger = ledger } }
+    → IsLine (old.lines.held ++ came) line new.lines → length new.lines.held < 8192 → Works next mode (steps_of_line mode line) outcome old.desk new.desk
+    → (IsLedgerFault outcome → IsOfLedger mode line) → Turned next mode (ended_by outcome) old new
+took next mode (Ok done) came line old new counts is ahead works ledger = record { came = came; counts = counts; turns = record { line = line; is_line = is; ahead = ahead; works = works; ledger = ledger } }
+took next mode (Err fault.Write) came line old new counts is ahead works ledger = record { came = came; counts = counts; turns = record { line = line; is_line = is; ahead = ahead; works = works; ledger = ledger } }
+took next mode (Err fault.Keep) came line old new counts is ahead works ledger = record { came = came; counts = counts; turns = record { line = line; is_line = is; ahead = ahead; works = works; ledger = ledger } }
+took next mode (Err fault.Memory) came line old new counts is ahead works ledger = record { came = came; counts = counts; turns = record { line = line; is_line = is; ahead = ahead; works = works; ledger = ledger } }
+
+-- a front of a buffer has no more bytes than were asked for
+pub front_short : (size : ℕ) (buffer : List ℕ) → size ≤ 4096 → length (take size buffer) ≤ 4096
+front_short size buffer most = omega (arith, length-take size buffer)
 
 -- a line above 4,096 bytes is none of the ledger
 pub no_ledger_fault : (outcome : Result (Unit {0}) WriteFault) → IsLedgerFault (of_line outcome) → ⊥

@@ -1,5 +1,5 @@
 -- One turn of a run: a line is taken and answered, or the run ends.
-use Rattle.std.specs.Prelude.{◌≡◌, ◌≢◌, ℕ, ◌<◌, true, false, List, [], ◌++◌, Option, Some, None, Result, Ok, Err}
+use Rattle.std.specs.Prelude.{◌≡◌, ◌≢◌, ℕ, ◌<◌, ◌≤◌, true, false, List, [], ◌++◌, length, Option, Some, None, Result, Ok, Err}
 use Rattle.run_spec.specs.declared.Mode.{Mode}
 use Rattle.run_spec.specs.declared.Mode.TheVariants as mode_is
 use Rattle.run_spec.specs.declared.Status.{Status}
@@ -28,13 +28,20 @@ ended_by (Err fault.Write) = Some status.Write
 ended_by (Err fault.Keep) = Some status.Keep
 ended_by (Err fault.Memory) = Some status.Memory
 
+-- A line of the ledger that is read.
+pub record IsOfLedger (mode : Mode) (line : List ℕ) : Type 0 where
+  pub takes : mode ≢ mode_is.Device
+  pub short : length line ≤ 4096
+  pub is_ledger : is_ledger_text (trimmed line) ≡ true
+
 -- A line was taken, and that became of its steps.
 pub record TakesLine (next : List ℕ → ℕ → ℕ) (mode : Mode) (outcome : Result (Unit {0}) LineFault) (came : List ℕ)
     (old new : Parts) : Type 0 where
   pub line : List ℕ
   pub is_line : IsLine (old.lines.held ++ came) line new.lines
+  pub ahead : length new.lines.held < 8192
   pub works : Works next mode (steps_of_line mode line) outcome old.desk new.desk
-  pub ledger : IsLedgerFault outcome → (mode ≢ mode_is.Device) × (is_ledger_text (trimmed line) ≡ true)
+  pub ledger : IsLedgerFault outcome → IsOfLedger mode line
 
 -- What a turn did, by how the run ended in it: not, because of the sink, the keeper or want of memory, at the end of the
 -- input, because of the source, or because all bytes were taken that may be.

@@ -1,5 +1,5 @@
 // The turns of the loop: a line is taken and answered, or the run ends.
-ghost use Rattle.std.specs.Prelude.{◌≡◌, ◌≢◌, ◌≤◌, true, List, ℕ, Some};
+ghost use Rattle.std.specs.Prelude.{◌≡◌, ◌≢◌, ◌≤◌, true, Some};
 ghost use Rattle.run_spec.specs.declared.Mode.{Mode};
 ghost use Rattle.device_core.specs.Memory.{Holds};
 ghost use Rattle.bench_run.specs.Bench.{desk, of_line};
@@ -8,7 +8,7 @@ ghost use Rattle.line_loop.specs.Turn.{parts, Turned, ended_by};
 
 use bench_run::{Bench, LineFault, Lines, LinesFault, Next};
 use ledger_keeper::Keeper;
-use paygo_outside::{Flash, Sink, Source, WriteFault};
+use paygo_ports::{Flash, Sink, Source, WriteFault};
 use run_spec::{Mode, Status};
 use std::alloc::Global;
 use token_chain::Mixer;
@@ -77,12 +77,13 @@ fn long_ended(outcome: Result<(), WriteFault>) -> Option<Status>
 ///
 /// It ends with `Ok` only where the source has told its end, and every line was answered; with `Read`, `Write` or `Keep` where
 /// source, sink or keeper failed, once, and counted it, and no other of them has a fault; with `Long` exactly where 2^40 bytes were
-/// taken, the source hasn't told its end, and every whole line was answered; with `Memory` where there was none for a line of
+/// handed out, the source hasn't told its end, and every whole line was answered; with `Memory` where there was none for a line of
 /// the ledger. It never ends with `Usage`, and in `Mode::Device` neither with `Keep` nor with `Memory`.
 ///
-/// Where source, sink, keeper and flash tell what they hold, the answers are those of the machine of shop and device (`run`);
-/// over a flash that tells no words, those of the device by what it has in memory (`unseen`). It takes memory, but not in
-/// `Mode::Device`.
+/// What is written is the text of the answers to the lines that were handed out. Where keeper and flash tell what they hold, the
+/// answers are those of the machine of shop and device (`run`); over a flash that tells no words, those of the device by what it
+/// has in memory, a history that a device can have (`unseen`). Where a line failed, less than a block of 8,192 bytes was handed
+/// out behind it. It takes memory, but not in `Mode::Device`.
 pub fn run_lines<M: Mixer, S: Source, K: Sink, D: Keeper, F: Flash>(
     alloc: Global,
     mode: Mode,
@@ -100,7 +101,7 @@ pub fn run_lines<M: Mixer, S: Source, K: Sink, D: Keeper, F: Flash>(
         (outside (S.view source.old) (K.view sink.old) (D.view keeper.old) (F.view flash.old))
         (outside (S.view source.new) (K.view sink.new) (D.view keeper.new) (F.view flash.new)) }
     ensures long { IsLong result (S.view source.old) (S.view source.new) }
-    ensures read { (bytes : List ℕ) → (S.view source.old).left ≡ Some bytes → Reads result bytes (S.view source.new) }
+    ensures read { Reads result (S.view source.old) (S.view source.new) }
     ensures run { RunsTold M.next mode result
         (outside (S.view source.old) (K.view sink.old) (D.view keeper.old) (F.view flash.old))
         (outside (S.view source.new) (K.view sink.new) (D.view keeper.new) (F.view flash.new)) }

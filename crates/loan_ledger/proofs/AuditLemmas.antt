@@ -2,7 +2,7 @@
 use Rattle.std.proofs.Common.{◌≡◌, ℕ, Bool, List, [], ◌∷◌, ◌++◌, length, map, filter, take, Result, Ok, refl, sym, ap, ◌∙◌}
 use Rattle.std.proofs.lemmas.List.{map-append, append_assoc, take-map}
 use Rattle.std.proofs.lemmas.List.Elements.{filter-append}
-use Rattle.paygo_outside.specs.declared.Memory.{Memory}
+use Rattle.paygo_spec.specs.declared.Memory.{Memory}
 use Rattle.token_issue.specs.declared.job.Job.{Job}
 use Rattle.token_issue.specs.Audit.{is_right as job_is_right}
 use Rattle.ledger_spec.specs.declared.Row.{Row}

@@ -1,5 +1,6 @@
--- What an audit of the shop's tables finds: orders whose token is wrong, or whose count isn't clean. A customer who
--- types such a token may get another thing than what was paid for, or nothing.
+-- What an audit of the shop's tables finds: orders whose token is wrong, or whose count isn't clean, since another count,
+-- up to 4,095 or up to its own, has the token. A customer who types such a token may get another thing than what was paid
+-- for, or nothing.
 use Rattle.std.specs.Prelude.{◌≡◌, ℕ, ◌-◌, ◌^◌, Bool, ◌&&◌, ◌==◌, not, List, length, map, filter, sum_by, min, Result}
 use Rattle.std.specs.List.{flat_map}
 use Rattle.paygo_spec.specs.Chain.{token_at}
@@ -24,7 +25,8 @@ pub record Findings : Type 0 where
 abbrev pub findings_of : Audit → Findings
 findings_of audit = record { rows = audit.rows; orders = audit.orders; wrong = audit.wrong.items }
 
--- Whether an order of a row is right: its token is that of its count and value, and its count is clean.
+-- Whether an order of a row is right: its token is that of its count and value, and its count is clean: no other count up
+-- to 4,095 or up to its own has the token.
 abbrev pub is_right : (List ℕ → ℕ → ℕ) → Row → Order → Bool
 is_right next row order =
     (token_at (next row.key) row.start order.value order.count == order.token)

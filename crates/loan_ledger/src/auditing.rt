@@ -10,7 +10,7 @@ use crate::enrolling::fault_of;
 use crate::findings::Audit;
 use ledger_keeper::Keeper;
 use ledger_spec::{LedgerFault, Name, Order, Row};
-use paygo_outside::Memory;
+use paygo_spec::Memory;
 use std::alloc::Global;
 use token_chain::Mixer;
 use token_issue::{Job, audit4};

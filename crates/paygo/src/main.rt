@@ -1,44 +1,70 @@
 // The program `paygo`: its words are run over standard input, standard output, a database of the shop and a file as the flash.
 #![tactic(auto)]
 
-ghost use Rattle.std.specs.Prelude.{◌≡◌, map};
-ghost use Rattle.paygo.specs.Exit.{exit_of};
+ghost use Rattle.std.specs.Prelude.{◌≡◌, map, drop, IfOk, IfErr, OnOk};
+ghost use Rattle.std.specs.String.{string_bytes};
+ghost use Rattle.std.specs.IoError.{error_kind};
+ghost use Rattle.std.specs.Io.KnownBytes.{Appends};
+ghost use Rattle.std.specs.Process.{exit_status};
+ghost use Rattle.paygo.specs.Exit.{exit_of, line_for, ended_by};
 ghost use Rattle.paygo.specs.Paths.{paths_with, paths_of};
 
 use keeper_sqlite::SqliteKeeper;
 use paygo_cli::{Status, message, run};
-use paygo_outside::{FlashFile, StdinSource, StdoutSink};
 use sip_lanes::Lanes;
-use std::fs::{File, OpenOptions};
-use std::io::ErrorKind;
+use std::alloc::{AllocError, Global};
+use std::fs::File;
+use std::io::{ErrorKind, Write};
 use std::process::ExitCode;
-use std::{env, io};
-
-/// The exit status of a program that found no memory for its words.
-const OUT_OF_MEMORY: u8 = 6;
+use std::{env, fs, io};
+use system_ports::{FlashFile, StdinSource, StdoutSink};
 
 fn main(rt: HostRuntime) -> ExitCode {
     let _input = reserve(&rt);
     let _output = reserve(&rt);
     let _error = reserve(&rt);
-    match run_words(&rt) {
-        Ok(status) => {
-            if let Some(text) = message(status) {
-                let _ = eprintln!(rt; "{text}");
-            }
-            ExitCode::from(code(status))
-        }
-        Err(_) => {
-            let _ = eprintln!(rt; "paygo: out of memory");
-            ExitCode::from(OUT_OF_MEMORY)
-        }
+    let status = ended(run_args(&rt));
+    let _ = tell(&mut rt.stderr(), status);
+    exit(status)
+}
+
+// What takes the lowest free descriptor. Three of them, kept open, see to it that no file of the run gets the descriptor of a
+// standard stream that the program was started without, and no answer is written into the flash. A folder is neither read nor
+// written as a file is, so such a stream fails.
+fn reserve(rt: &HostRuntime) -> Option<File> {
+    fs::open(rt, "/").ok()
+}
+
+// How the run ended. An error says that its words could not be taken.
+fn ended(outcome: io::Result<Status>) -> Status
+    ensures ran { IfOk outcome (λ status. result ≡ status) }
+    ensures untaken { IfErr outcome (λ e. result ≡ ended_by (error_kind e)) }
+{
+    match outcome {
+        Ok(status) => status,
+        Err(e) if e.kind() == ErrorKind::OutOfMemory => Status::Memory,
+        Err(_) => Status::Usage,
     }
 }
 
-// A file that takes the lowest free descriptor. Three of them, kept open, see to it that the flash file never gets the
-// descriptor of a standard stream that the program was started without, and no answer is written into the flash.
-fn reserve(rt: &HostRuntime) -> Option<File> {
-    OpenOptions::new().read(true).open(rt, "/dev/null").ok()
+// Writes what is said of this status, as a line.
+fn tell<W: Write>(errors: &mut W, status: Status) -> io::Result<()>
+    ensures { OnOk result (Appends (W.contents errors.old) (W.contents errors.new) (line_for status)) }
+{
+    match message(status) {
+        Some(text) => {
+            errors.write_all(text.as_bytes())?;
+            errors.write_all(b"\n")
+        }
+        None => Ok(()),
+    }
+}
+
+// What `main` hands out for this status.
+fn exit(status: Status) -> ExitCode
+    ensures { exit_status result ≡ exit_of status }
+{
+    ExitCode::from(code(status))
 }
 
 // The exit status of the program.
@@ -56,18 +82,27 @@ fn code(status: Status) -> u8
     }
 }
 
-// Runs the words of the command line. Words that aren't text are of no form. An error is want of memory.
-fn run_words(rt: &HostRuntime) -> io::Result<Status> {
-    let args = match env::args(rt) {
-        Ok(args) => args,
-        Err(e) if e.kind() == ErrorKind::OutOfMemory => return Err(e),
-        Err(_) => return Ok(Status::Usage),
-    };
-    let mut words = Vec::new(rt.alloc());
-    for word in args.skip(1) {
-        words.push(word)?;
+// Runs the words of the command line. An error says that they aren't text, or that there was no memory for them.
+fn run_args(rt: &HostRuntime) -> io::Result<Status> {
+    let mut args = Vec::new(rt.alloc());
+    for arg in env::args(rt)? {
+        args.push(arg)?;
     }
-    run_texts(rt, words.as_slice())
+    let words = words_of(rt.alloc(), args.as_slice())?;
+    run_words(rt, words.as_slice())
+}
+
+// The words behind the program's own name.
+fn words_of<'a>(alloc: Global, args: &'a [String]) -> Result<Vec<&'a str>, AllocError>
+    ensures { IfOk result (λ words. map (λ word. word.now) words.items ≡ drop 1 (map string_bytes args.now)) }
+{
+    let mut words = Vec::new(alloc);
+    if let [_, behind @ ..] = args {
+        for word in behind {
+            words.push(word.as_str())?;
+        }
+    }
+    Ok(words)
 }
 
 // The paths of the database and of the flash file that the words name: `device FLASH` names a flash, `bench DB FLASH` both, and
@@ -92,13 +127,10 @@ fn path_with<'a>(word: &str, file: &'a str) -> (&'a str, &'a str)
     }
 }
 
-// Runs these words. At the end the database is closed, so that its file stands alone.
-fn run_texts(rt: &HostRuntime, words: &[String]) -> io::Result<Status> {
-    let mut texts = Vec::new(rt.alloc());
-    for word in words {
-        texts.push(word.as_str())?;
-    }
-    let (tables, flash) = paths(texts.as_slice());
+// Runs these words. What is wrong with tables that were refused is told on standard error. At the end the database is closed, so
+// that its file stands alone.
+fn run_words(rt: &HostRuntime, words: &[&str]) -> io::Result<Status> {
+    let (tables, flash) = paths(words);
     let mut source = StdinSource::new(rt);
     let mut sink = StdoutSink::new(rt);
     let mut keeper = SqliteKeeper::at(rt, String::from_str(rt.alloc(), tables)?);
@@ -111,12 +143,15 @@ fn run_texts(rt: &HostRuntime, words: &[String]) -> io::Result<Status> {
         FlashFile<HostRuntime>,
     >(
         rt.alloc(),
-        texts.as_slice(),
+        words,
         &mut source,
         &mut sink,
         &mut keeper,
         &mut flash,
     );
+    if let Some(misfit) = keeper.trouble() {
+        let _ = eprintln!(rt; "paygo: {misfit}");
+    }
     let _ = keeper.close();
     Ok(status)
 }

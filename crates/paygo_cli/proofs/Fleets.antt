@@ -1,9 +1,8 @@
 -- A fleet that was run, and the line of its totals.
-use Rattle.std.proofs.Common.{◌≡◌, ℕ, List, [], ◌∷◌, ◌++◌, take, Some, Result, Ok, Err, IfOk, refl, ap, subst, ◌∙◌}
-use Rattle.std.specs.Io.KnownBytes.{append_known}
+use Rattle.std.proofs.Common.{◌≡◌, ℕ, List, [], ◌∷◌, ◌++◌, Result, Ok, Err, IfOk, refl, subst}
 use Rattle.paygo_spec.specs.Streams.{SinkView}
 use Rattle.ledger_spec.specs.declared.Enrol.{Enrol}
-use Rattle.paygo_outside.specs.declared.sink.WriteFault.{WriteFault}
+use Rattle.paygo_ports.specs.declared.sink.WriteFault.{WriteFault}
 use Rattle.fleet_spec.specs.declared.Step.{Step}
 use Rattle.fleet_spec.specs.declared.Totals.{Totals}
 use Rattle.fleet_spec.specs.Script.{enrols_of, steps_of}
@@ -32,9 +31,7 @@ pub text_is : (devices days : ℕ) (totals : Totals) → with_totals (with_size 
 unfolding text_of_fleet
 text_is devices days totals = refl
 
-pub line_written : (next : List ℕ → ℕ → ℕ) (seed devices days : ℕ) (totals : Totals) → IsFleet next seed devices days totals → (outcome : Result (Unit {0}) WriteFault) (old new : SinkView) (before : List ℕ)
-    → old.written ≡ Some before → Wrote (text_of_fleet devices days totals) outcome old new → WritesFleet next seed devices days (written_by outcome) before new
-line_written next seed devices days totals fleet (Ok done) old new before was wrote =
-    (totals, fleet, λ e. cc, wrote ∙ ap (λ known. append_known known (text_of_fleet devices days totals)) was)
-line_written next seed devices days totals fleet (Err fault) old new before was (n, less, wrote) =
-    (totals, fleet, λ e. cc, (n, less, wrote ∙ ap (λ known. append_known known (take n (text_of_fleet devices days totals))) was))
+pub line_written : (next : List ℕ → ℕ → ℕ) (seed devices days : ℕ) (totals : Totals) → IsFleet next seed devices days totals → (outcome : Result (Unit {0}) WriteFault) (old new : SinkView)
+    → Wrote (text_of_fleet devices days totals) outcome old new → WritesFleet next seed devices days (written_by outcome) old new
+line_written next seed devices days totals fleet (Ok done) old new wrote = (totals, fleet, λ e. cc, wrote)
+line_written next seed devices days totals fleet (Err fault) old new wrote = (totals, fleet, λ e. cc, wrote)

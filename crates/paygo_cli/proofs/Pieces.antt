@@ -1,30 +1,24 @@
 -- Texts that are written piece by piece.
-use Rattle.std.proofs.Common.{◌≡◌, ℕ, zero, suc, ◌+◌, ◌<◌, List, [], ◌∷◌, ◌++◌, length, take, drop, slice_index_or, Option, Some, None, Result, Ok, Err, refl, ap, sym, subst, ◌∙◌, arith}
+use Rattle.std.proofs.Common.{◌≡◌, ℕ, zero, suc, ◌+◌, ◌<◌, List, [], ◌∷◌, ◌++◌, length, take, drop, slice_index_or, Result, Ok, Err, refl, ap, sym, subst, ◌∙◌, arith}
 use Rattle.std.specs.List.{flat_map}
-use Rattle.std.specs.Io.KnownBytes.{append_known}
 use Rattle.std.proofs.lemmas.List.{append_assoc, length-append, take-append-le}
 use Rattle.std.proofs.Math.Seq.{take-append-add}
 use Rattle.paygo_spec.specs.Streams.{SinkView}
-use Rattle.paygo_outside.specs.declared.sink.WriteFault.{WriteFault}
+use Rattle.paygo_ports.specs.declared.sink.WriteFault.{WriteFault}
 use Rattle.loan_ledger.specs.Audit.{Findings}
 use Rattle.loan_ledger.specs.AuditText.{wrong_line, numbers_line, text_of_findings}
 use Rattle.bench_run.specs.Bench.{Wrote}
 
--- a text behind another
-appended : (known : Option (List ℕ)) (a b : List ℕ) → append_known (append_known known a) b ≡ append_known known (a ++ b)
-appended None a b = refl
-appended (Some xs) a b = ap Some (append_assoc xs a b)
-
 -- a text was written behind one that was written whole
-pub behind : (a b : List ℕ) (result : Result (Unit {0}) WriteFault) (old mid new : SinkView) → mid.written ≡ append_known old.written a → Wrote b result mid new → Wrote (a ++ b) result old new
-behind a b (Ok done) old mid new first second = second ∙ ap (λ known. append_known known b) first ∙ appended old.written a b
+pub behind : (a b : List ℕ) (result : Result (Unit {0}) WriteFault) (old mid new : SinkView) → mid.written ≡ old.written ++ a → Wrote b result mid new → Wrote (a ++ b) result old new
+behind a b (Ok done) old mid new first second = second ∙ ap (λ l. l ++ b) first ∙ append_assoc old.written a b
 behind a b (Err fault) old mid new first (n, less, second) =
-    (length a + n, omega (arith, less, length-append a b), second ∙ ap (λ known. append_known known (take n b)) first ∙ appended old.written a (take n b) ∙ ap (append_known old.written) (sym (take-append-add a b n)))
+    (length a + n, omega (arith, less, length-append a b), second ∙ ap (λ l. l ++ take n b) first ∙ append_assoc old.written a (take n b) ∙ ap (λ l. old.written ++ l) (sym (take-append-add a b n)))
 
 -- a text was cut, behind which there was more to write
 pub cut_short : (a b : List ℕ) (fault : WriteFault) (old new : SinkView) → Wrote a (Err fault) old new → Wrote (a ++ b) (Err fault) old new
 cut_short a b fault old new (n, less, written) =
-    (n, omega (arith, less, length-append a b), written ∙ ap (append_known old.written) (sym (take-append-le n a b (omega (arith, less)))))
+    (n, omega (arith, less, length-append a b), written ∙ ap (λ l. old.written ++ l) (sym (take-append-le n a b (omega (arith, less)))))
 
 -- the texts of some names: those of the first ones, that of the one behind them, and those of the others
 split_at : (f : List ℕ → List ℕ) (xs : List (List ℕ)) (i : ℕ) (x : List ℕ) → i < length xs → x ≡ slice_index_or xs i x → flat_map f xs ≡ flat_map f (take i xs) ++ (f x ++ flat_map f (drop (suc i) xs))
@@ -35,7 +29,7 @@ split_at f (y ∷ ys) (suc i) x less is =
 
 -- a line for each of some ids, the last of which was cut
 pub cut_at : (ids : List (List ℕ)) (i : ℕ) (id : List ℕ) → i < length ids → id ≡ slice_index_or ids i id → (fault : WriteFault) (old mid new : SinkView)
-    → mid.written ≡ append_known old.written (flat_map wrong_line (take i ids)) → Wrote (wrong_line id) (Err fault) mid new → Wrote (flat_map wrong_line ids) (Err fault) old new
+    → mid.written ≡ old.written ++ flat_map wrong_line (take i ids) → Wrote (wrong_line id) (Err fault) mid new → Wrote (flat_map wrong_line ids) (Err fault) old new
 cut_at ids i id less is fault old mid new before cut =
     let rest = flat_map wrong_line (drop (suc i) ids) in
     subst (λ (l : List ℕ). Wrote l (Err fault) old new) (sym (split_at wrong_line ids i id less is))

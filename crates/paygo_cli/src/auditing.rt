@@ -1,5 +1,5 @@
 // An audit, whose findings are written.
-ghost use Rattle.std.specs.Prelude.{◌≡◌, ◌≢◌, ◌≤◌, ◌++◌, ℕ, List, codes, length, Some};
+ghost use Rattle.std.specs.Prelude.{◌≡◌, ◌≢◌, ◌≤◌, ◌++◌, codes, length, Some};
 ghost use Rattle.std.specs.List.{flat_map};
 ghost use Rattle.paygo_spec.specs.Flash.{FlashView};
 ghost use Rattle.paygo_spec.specs.Faults.{Counted};
@@ -19,7 +19,7 @@ use ledger_keeper::Keeper;
 use ledger_spec::{LedgerFault, Name};
 use line_text::Line;
 use loan_ledger::{Audit, audit};
-use paygo_outside::{Sink, WriteFault};
+use paygo_ports::{Sink, WriteFault};
 use run_spec::Status;
 use std::alloc::Global;
 use token_chain::Mixer;
@@ -85,9 +85,8 @@ pub(crate) fn run_audit<M: Mixer, K: Sink, D: Keeper>(
     ensures causes { (source : SourceView) (flash : FlashView) → Causes (Some result)
         (outside source (K.view sink.old) (D.view keeper.old) flash)
         (outside source (K.view sink.new) (D.view keeper.new) flash) }
-    ensures written { (tables : Tables) (before : List ℕ) → (D.view keeper.old).tables ≡ Some tables →
-        (K.view sink.old).written ≡ Some before →
-        WritesText result (text_of_findings (audited M.next tables)) before (K.view sink.new) }
+    ensures written { (tables : Tables) → (D.view keeper.old).tables ≡ Some tables →
+        WritesText result (text_of_findings (audited M.next tables)) (K.view sink.old) (K.view sink.new) }
 {
     match audit::<M, D>(alloc, keeper) {
         Ok(audit) => written(write_findings(sink, &audit)),

@@ -1,5 +1,5 @@
 // A fleet, drawn from a number and run, and the line of its totals.
-ghost use Rattle.std.specs.Prelude.{◌≡◌, ◌≢◌, ◌≤◌, ◌++◌, ℕ, List, codes, length, IfOk, Some};
+ghost use Rattle.std.specs.Prelude.{◌≡◌, ◌≢◌, ◌≤◌, ◌++◌, codes, length, IfOk};
 ghost use Rattle.paygo_spec.specs.Flash.{FlashView};
 ghost use Rattle.paygo_spec.specs.Streams.{SourceView};
 ghost use Rattle.run_spec.specs.declared.Status.{Status};
@@ -14,7 +14,8 @@ use fleet_script::generate;
 use fleet_sim::run_fleet;
 use fleet_spec::Totals;
 use line_text::Line;
-use paygo_outside::{Memory, Sink};
+use paygo_ports::Sink;
+use paygo_spec::Memory;
 use run_spec::Status;
 use std::alloc::Global;
 use token_chain::Mixer;
@@ -77,8 +78,7 @@ pub(crate) fn run_simulation<M: Mixer, K: Sink>(
     ensures ends { (result ≢ Status.Usage) × (result ≢ Status.Read) × (result ≢ Status.Keep) × (result ≢ Status.Long) }
     ensures causes { (source : SourceView) (keeper : KeeperView) (flash : FlashView) → Causes (Some result)
         (outside source (K.view sink.old) keeper flash) (outside source (K.view sink.new) keeper flash) }
-    ensures written { (before : List ℕ) → (K.view sink.old).written ≡ Some before →
-        WritesFleet M.next seed devices days result before (K.view sink.new) }
+    ensures written { WritesFleet M.next seed devices days result (K.view sink.old) (K.view sink.new) }
 {
     match totals_of::<M>(alloc, seed, devices, days) {
         Ok(totals) => written(write_line(sink, fleet_text(devices, days, &totals))),

@@ -1,5 +1,5 @@
 // A whole run.
-ghost use Rattle.std.specs.Prelude.{◌≡◌, ◌≢◌, ◌⊎◌, ◌↔◌, true, List, ℕ, map, Some, None};
+ghost use Rattle.std.specs.Prelude.{◌≡◌, ◌≢◌, ◌⊎◌, ◌↔◌, true, ℕ, map, Some, None};
 ghost use Rattle.ledger_spec.specs.Tables.{Tables};
 ghost use Rattle.run_spec.specs.declared.Mode.{Mode as Taken};
 ghost use Rattle.loan_ledger.specs.Audit.{audited};
@@ -13,7 +13,7 @@ use crate::simulating::run_simulation;
 use crate::words::{Work, work_in};
 use ledger_keeper::Keeper;
 use line_loop::run_lines;
-use paygo_outside::{Flash, Sink, Source};
+use paygo_ports::{Flash, Sink, Source};
 use run_spec::Status;
 use std::alloc::Global;
 use token_chain::Mixer;
@@ -30,24 +30,27 @@ use token_chain::Mixer;
 /// - `Read` where the source failed, and only where lines are taken. Every whole line was answered.
 /// - `Write` where the sink failed. The steps of the lines were answered up to one whose answer was cut, and no later one was
 ///   taken; each earlier answer was written whole. The text of an audit or a fleet was cut.
-/// - `Keep` where the keeper failed, and never for `device` and `fleet`. Every line before one of the ledger was answered; the
-///   tables are as before that line, or have the whole change of its command. Of an audit nothing was written.
+/// - `Keep` where the keeper failed, and never for `device` and `fleet`. Every line before one that asks for a command was
+///   answered; the tables are as before that command, or have its whole change. Of an audit nothing was written.
 /// - `Memory` where there was none for a line of the ledger, for the audit or for the fleet; never for `device`. Every line before
 ///   it was answered, and the tables are as before it. Of an audit and a fleet nothing was written.
-/// - `Long` where lines are taken, exactly where 2^40 bytes were taken, the source hasn't told its end, and every whole line was
-///   answered.
+/// - `Long` where lines are taken, exactly where 2^40 bytes were handed out, the source hasn't told its end, and every whole line
+///   was answered.
 ///
 /// No fault is passed over: each one of source, sink and keeper is counted, once, and ends the run, and none has one where the
 /// run ends otherwise (`causes`). Where none of their counts rises, the status is `Ok`, `Long` or, but for `device`, `Memory`. Of
 /// the flash no more calls fail than were planned, where it tells its plan; each `down` is one fault of it, and nothing else is
 /// (`downs_are`). A count stands still at 2^64 - 1.
 ///
-/// Where source, sink, keeper and flash tell what they hold, the answers are those of the machine of shop and device, and from
-/// sound tables the shop's and the customer's promises are kept (`run`). Over a flash that tells no words, as a file tells
-/// none, each answer of the device is that of its machine by what it has in memory (`unseen`). An audit changes nothing, and writes
-/// what there is to find in tables that are told (`audited`). A fleet's totals are those of shop and devices on the days that the
-/// seed draws, each planned power cut in the event in which it falls; where none is planned they are a function of the words
-/// (`simulated`). It takes memory but for `device`.
+/// What is written is the text of the answers to the lines that were handed out, whatever source and sink are. Where keeper and
+/// flash tell what they hold, the answers are those of the machine of shop and device, the flash's due falls by the calls of
+/// each event, and from sound tables the shop's and the customer's promises are kept (`run`). Over a flash that tells no words, as
+/// a file tells none, each answer of the device is that of its machine by what it has in memory, a history that a device can have,
+/// so that between two power-ups each count is accepted once at most; and what rests on the tables alone is kept as well (`unseen`).
+/// Where a line failed, less than a block of 8,192 bytes was handed out behind it. An audit changes nothing, and writes what there
+/// is to find in tables that are told (`audited`). A fleet's totals are those of shop and devices on the days that the seed draws,
+/// each planned power cut in the event in which it falls; where none is planned they are a function of the words (`simulated`). It
+/// takes memory but for `device`.
 pub fn run<M: Mixer, S: Source, K: Sink, D: Keeper, F: Flash>(
     alloc: Global,
     words: &[&str],
@@ -77,7 +80,7 @@ pub fn run<M: Mixer, S: Source, K: Sink, D: Keeper, F: Flash>(
     ensures long { (mode : Taken) → work_of (map (λ word. word.now) words.now) ≡ Some (Work.Lines mode) →
         IsLong result (S.view source.old) (S.view source.new) }
     ensures read { (mode : Taken) → work_of (map (λ word. word.now) words.now) ≡ Some (Work.Lines mode) →
-        (bytes : List ℕ) → (S.view source.old).left ≡ Some bytes → Reads result bytes (S.view source.new) }
+        Reads result (S.view source.old) (S.view source.new) }
     ensures complete { result ≢ Status.Usage → IsCalm (S.view source.old).faults (S.view source.new).faults →
         IsCalm (K.view sink.old).faults (K.view sink.new).faults →
         IsCalm (D.view keeper.old).faults (D.view keeper.new).faults →
@@ -91,13 +94,11 @@ pub fn run<M: Mixer, S: Source, K: Sink, D: Keeper, F: Flash>(
         (outside (S.view source.old) (K.view sink.old) (D.view keeper.old) (F.view flash.old))
         (outside (S.view source.new) (K.view sink.new) (D.view keeper.new) (F.view flash.new)) }
     ensures audited { work_of (map (λ word. word.now) words.now) ≡ Some Work.Audit →
-        (tables : Tables) (before : List ℕ) → (D.view keeper.old).tables ≡ Some tables →
-        (K.view sink.old).written ≡ Some before →
-        WritesText result (text_of_findings (audited M.next tables)) before (K.view sink.new) }
+        (tables : Tables) → (D.view keeper.old).tables ≡ Some tables →
+        WritesText result (text_of_findings (audited M.next tables)) (K.view sink.old) (K.view sink.new) }
     ensures simulated { (seed devices days : ℕ) →
         work_of (map (λ word. word.now) words.now) ≡ Some (Work.Fleet seed devices days) →
-        (before : List ℕ) → (K.view sink.old).written ≡ Some before →
-        WritesFleet M.next seed devices days result before (K.view sink.new) }
+        WritesFleet M.next seed devices days result (K.view sink.old) (K.view sink.new) }
 {
     match work_in(words) {
         Some(Work::Lines(mode)) => {

@@ -2,7 +2,7 @@
 ghost use Rattle.std.specs.Prelude.{◌≡◌};
 ghost use Rattle.paygo_cli.specs.Ends.{written_by};
 
-use paygo_outside::WriteFault;
+use paygo_ports::WriteFault;
 use run_spec::Status;
 
 // The status of a run whose whole text was to be written.

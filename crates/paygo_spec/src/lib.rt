@@ -1,5 +1,6 @@
-// The plain types and, in specs/, the definitions that the contracts of every other crate cite.
-// There is no logic here: what a word of a contract means is read in this crate alone.
+// The plain types of the device, a few tests on them and, in specs/, the definitions that the contracts of other crates cite.
+// What a word of a contract means is read in the four crates of definitions: here for the device, in ledger_spec for the
+// shop, in run_spec for a run of both and in fleet_spec for a fleet; and where a crate above has words of its own, in its specs/.
 #![tactic(auto)]
 
 ghost use Rattle.std.specs.Prelude.{◌≡◌, ◌≢◌, ◌↔◌, IsNone, IfSome};
@@ -240,3 +241,17 @@ pub enum Found {
     /// It is the token of no count from 0 to the reach, the greatest count that the device takes next.
     Invalid,
 }
+
+/// A planned power cut: `after` live calls that pass, and then one that fails.
+#[derive(Clone, Copy, Debug, PartialEq, Eq)]
+pub struct Cut {
+    /// How many live calls pass before the one that fails.
+    pub after: u32,
+    /// Which bits the call that fails leaves 1: programming `w` leaves `w | keep`, and erasing leaves `old | keep` in each
+    /// word of the bank. The other calls leave the words as they were.
+    pub keep: u64,
+}
+
+/// Want of memory: what a call asked of the allocator wasn't given.
+#[derive(Clone, Copy, Debug, PartialEq, Eq)]
+pub struct Memory;

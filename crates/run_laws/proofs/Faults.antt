@@ -50,8 +50,8 @@ finds_count (Make config) (Some (Made number)) old new finds = finds.1.faults_ar
 finds_count _ _ old new finds = absurd finds
 
 pub unseen_count : (next : List ℕ → ℕ → ℕ) (event : Event) (reply : Option Reply) (old new : State) → ActsUnseen next event reply old new → FaultsBy reply old.faults new.faults
-unseen_count next event reply old new (inl acts) = acts_count next event reply old new acts
-unseen_count next event reply old new (inr finds) = finds_count event reply old new finds
+unseen_count next event reply old new (inl acts, lawful) = acts_count next event reply old new acts
+unseen_count next event reply old new (inr finds, lawful) = finds_count event reply old new finds
 
 -- An answer `down` is one fault, and any other is none.
 abbrev pub OneFault : Option Answer → ℕ → ℕ → Type 0

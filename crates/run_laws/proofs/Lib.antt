@@ -1,4 +1,6 @@
 pub mod Faults
+pub mod Between
+pub mod Commands
 pub mod Standing
 pub mod Differing
 pub mod Once

@@ -1,6 +1,6 @@
 -- What comes of typing a token that may be used.
-use Rattle.std.proofs.Common.{◌≡◌, ◌≢◌, ℕ, ◌+◌, ◌^◌, ◌<◌, ◌≤◌, Bool, true, false, cond, not, ◌==◌, List, [], ◌∷◌, ◌++◌, length, map, Option, Some, None, refl, sym, ap, ◌∙◌, subst, arith, append_assoc, append-nil}
-use Rattle.std.specs.Prelude.{nat_lt, unwrap_or}
+use Rattle.std.proofs.Common.{◌≡◌, ◌≢◌, ℕ, ◌+◌, ◌*◌, ◌^◌, ◌<◌, ◌≤◌, min, Bool, true, false, cond, not, ◌==◌, List, [], ◌∷◌, ◌++◌, length, map, Option, Some, None, refl, sym, ap, ◌∙◌, subst, arith, append_assoc, append-nil}
+use Rattle.std.specs.Prelude.{nat_lt, unwrap_or, IsSome}
 use Rattle.std.specs.List.{position_from}
 use Rattle.std.specs.Option.{option_map}
 use Rattle.std.proofs.lemmas.Bool.Decides.{nat_tests}
@@ -15,11 +15,10 @@ use Rattle.paygo_spec.specs.declared.Reply.{Reply}
 use Rattle.paygo_spec.specs.declared.Reply.TheVariants as reply_is
 use Rattle.paygo_spec.specs.declared.TokenKind.{TokenKind}
 use Rattle.paygo_spec.specs.declared.TokenKind.TheVariants.{Add, Set, Free, Sync}
-use Rattle.paygo_spec.specs.Clock.{ClockView, clock_of}
+use Rattle.paygo_spec.specs.Clock.{ClockView, HasEffect, clock_of, most_left, taken_by}
 use Rattle.paygo_spec.specs.Digits.{digit_count, digits_of, first_fault, is_digit, token_limit}
 use Rattle.paygo_spec.specs.Found.{found}
 use Rattle.paygo_spec.specs.History.{Summary, kind_of}
-use Rattle.paygo_spec.specs.Layout.{Position}
 use Rattle.paygo_spec.specs.Machine.{State, Stored, History, Answers, Acts, ActsIf, Replies, Meets, MayAdd, GoesBy, clock_at, unit_for, effect_of, effect_of_typed, typed_on, reply_to_entry, reply_to_token, keys_after}
 use Rattle.paygo_spec.specs.Pad.{Keys, after_key}
 use Rattle.paygo_spec.specs.Typed.{Typed, WrongLength, Blocked, Makes, by_found, by_digits, by_length, token_in, typed}
@@ -104,9 +103,9 @@ abbrev pub keys_of : List ℕ → List Step
 keys_of bytes = map (λ key. Act (Key key)) bytes
 
 -- one answer more that is none
-one_before : (count : ℕ) (at : Position) (answers : List (Option Answer)) → IsTakenLast count at answers → IsTakenLast count at (None ∷ answers)
-one_before count at [] last = absurd last
-one_before count at (answer ∷ answers) last = last
+one_before : (history : History) (n v : ℕ) (answers : List (Option Answer)) → IsTakenLast history n v answers → IsTakenLast history n v (None ∷ answers)
+one_before history n v [] last = absurd last
+one_before history n v (answer ∷ answers) last = last
 
 -- a key is an event, and its answer a reply
 key_taken : (next : List ℕ → ℕ → ℕ) (key : ℕ) (answer : Option Answer) (old new : World) → MayAnswer next (Act (Key key)) answer old new
@@ -116,23 +115,39 @@ key_taken next key (Some (Said text)) old new may = absurd may
 key_taken next key (Some (Did answer)) old new may = absurd may
 key_taken next key (Some (Told reply)) old new may = (Some reply, refl, may.0.1)
 
--- the reply to an accepted token has its count
-accepted_as : (kind : Option TokenKind) (n v : ℕ) (at : Position) (clock : ClockView) → IsTaken n at (Some (Told (reply_to_token kind n v clock)))
-accepted_as (Some Add) n v at clock = refl
-accepted_as (Some Set) n v at clock = refl
-accepted_as (Some Free) n v at clock = refl
-accepted_as (Some Sync) n v at clock = refl
-accepted_as None n v at clock = refl
+-- The clock after an add token, by whether the device is free.
+abbrev pub added_if : ℕ → ℕ → ClockView → Bool → ClockView
+added_if unit v clock b = cond b (record clock { fails = 0 }) (record clock { left = min (clock.left + v * unit) most_left; fails = 0 })
 
-accepted : (n v : ℕ) (at : Position) (clock : ClockView) → IsTaken n at (Some (Told (reply_to_entry (Accept n v) clock)))
-accepted n v at clock = accepted_as (kind_of n v) n v at clock
+true_not_false : (b : Bool) → b ≡ true → b ≡ false → ⊥
+true_not_false true is other = let bad : true ≡ false = other in cc
+true_not_false false is other = let bad : false ≡ true = is in cc
+
+-- the reply to an add token, by whether the device is free
+added_as : (history : History) (n v : ℕ) (b : Bool) → kind_of n v ≡ Some Add → (clock_at history history.entries).free ≡ b
+    → IsTaken history n v (Some (Told (reply_to_token (Some Add) n v (added_if (unit_for history) v (clock_at history history.entries) b))))
+added_as history n v true kind is =
+    record { kind = kind; count_is = refl; value_is = refl; free_is = refl; added = λ other. absurd (true_not_false (clock_at history history.entries).free is other); stays = λ _. refl }
+added_as history n v false kind is =
+    record { kind = kind; count_is = refl; value_is = refl; free_is = refl; added = λ _. refl; stays = λ other. absurd (true_not_false (clock_at history history.entries).free other is) }
+
+-- the reply to an accepted token has its count and value, and the time left is what the value makes of the time before
+accepted_as : (history : History) (n v : ℕ) (kind : Option TokenKind) → kind_of n v ≡ kind → IsSome kind
+    → IsTaken history n v (Some (Told (reply_to_token kind n v (taken_by (unit_for history) kind v (clock_at history history.entries)))))
+accepted_as history n v (Some Add) kind some = added_as history n v (clock_at history history.entries).free kind refl
+accepted_as history n v (Some Set) kind some = record { kind = kind; count_is = refl; value_is = refl; left_is = refl }
+accepted_as history n v (Some Free) kind some = (kind, refl)
+accepted_as history n v (Some Sync) kind some = (kind, refl)
+accepted_as history n v None kind some = absurd (let bad : false ≡ true = some in cc)
+
+accepted : (history : History) (n v : ℕ) → HasEffect n v → IsTaken history n v (Some (Told (reply_to_entry (Accept n v) (clock_at history (Accept n v ∷ history.entries)))))
+accepted history n v effect = accepted_as history n v (kind_of n v) refl effect
 
 -- what is answered to an accepted token
-taken_by : (history : History) (n v : ℕ) (reply : Option Reply) (new : Stored) → MayAdd history (Accept n v) reply new → IsTaken n history.at (option_map Told reply)
-taken_by history n v (Some reply_is.Worn) new may = may.0
-taken_by history n v (Some reply_is.Down) new may = tt
-taken_by history n v _ new may =
-    subst (λ (r : Option Reply). IsTaken n history.at (option_map Told r)) (sym may.1) (accepted n v history.at (clock_at history (Accept n v ∷ history.entries)))
+taken : (history : History) (n v : ℕ) (reply : Option Reply) (new : Stored) → HasEffect n v → MayAdd history (Accept n v) reply new → IsTaken history n v (option_map Told reply)
+taken history n v (Some reply_is.Worn) new effect may = may.0
+taken history n v (Some reply_is.Down) new effect may = tt
+taken history n v _ new effect may = subst (λ (r : Option Reply). IsTaken history n v (option_map Told r)) (sym may.1) (accepted history n v effect)
 
 star_other : (key : ℕ) → key ≡ 42 → key ≢ 35
 star_other key star = λ e. omega (arith, star, e)
@@ -144,20 +159,20 @@ starred next answer old new history up may =
     let still = quiet next 42 by.0 old.device new.device history (star_other 42 refl) up by.2 in
     (by.1 ∙ ap (option_map Told) still.0, record { up = still.1; typed_is = ap (λ (k : Keys). k.pressed) still.2 })
 
-module _ (next : List ℕ → ℕ → ℕ) (history : History) (token n v : ℕ) (below : token < 10 ^ 9) (free : (clock_at history history.entries).block ≡ 0)
+module _ (next : List ℕ → ℕ → ℕ) (history : History) (token n v : ℕ) (below : token < 10 ^ 9) (free : (clock_at history history.entries).block ≡ 0) (effect : HasEffect n v)
     (is : found (next history.config.key) history.config.start history.start history.entries token ≡ found_is.Valid n v) where
   -- `#` behind the digits
-  entered : (answer : Option Answer) (old new : World) → HasTyped history (digits_of history.config.form token) old.device → MayAnswer next (Act (Key 35)) answer old new → IsTaken n history.at answer
+  entered : (answer : Option Answer) (old new : World) → HasTyped history (digits_of history.config.form token) old.device → MayAnswer next (Act (Key 35)) answer old new → IsTaken history n v answer
   entered answer old new typed may =
       let by = key_taken next 35 answer old new may in
       let acted = key_acts next 35 by.0 old.device new.device history typed.up by.2 in
       let makes = ap (typed_on next history) typed.typed_is ∙ typed_valid (next history.config.key) history.config.start (unit_for history) history.config.form history.start history.entries token n v below free (sym is) in
       let met = subst (λ (t : Typed). Meets history (effect_of_typed history t) by.0 new.device.stored) makes acted.0 in
-      subst (λ (a : Option Answer). IsTaken n history.at a) (sym by.1) (taken_by history n v by.0 new.device.stored met)
+      subst (λ (a : Option Answer). IsTaken history n v a) (sym by.1) (taken history n v by.0 new.device.stored effect met)
 
   -- the digits that are left, and `#`
   digits_left : (i : ℕ) (left typed : List ℕ) (answers : List (Option Answer)) (old new : World) → typed ++ left ≡ digits_of history.config.form token
-      → position_from (λ byte. not (is_digit history.config.form byte)) i left ≡ None → HasTyped history typed old.device → Run next old (keys_of (left ++ 35 ∷ [])) answers new → IsTakenLast n history.at answers
+      → position_from (λ byte. not (is_digit history.config.form byte)) i left ≡ None → HasTyped history typed old.device → Run next old (keys_of (left ++ 35 ∷ [])) answers new → IsTakenLast history n v answers
   digits_left i [] typed [] old new all clear has run = absurd run
   digits_left i [] typed (answer ∷ []) old new all clear has run =
       entered answer old run.0 (record { up = has.up; typed_is = has.typed_is ∙ sym (append-nil typed) ∙ all }) run.1
@@ -170,17 +185,17 @@ module _ (next : List ℕ → ℕ → ℕ) (history : History) (token n v : ℕ)
       let still = quiet next key by.0 old.device run.0.device history (λ e. omega (arith, e, up)) has.up by.2 in
       let pressed = ap (λ (k : Keys). k.pressed) still.2 ∙ digit_more key old.device.keys up ∙ ap (λ l. l ++ key ∷ []) has.typed_is in
       let last = digits_left (i + 1) keys (typed ++ key ∷ []) answers run.0 new (append_assoc typed (key ∷ []) keys ∙ all) first.1 (record { up = still.1; typed_is = pressed }) run.2 in
-      subst (λ (a : Option Answer). IsTakenLast n history.at (a ∷ answers)) (sym (by.1 ∙ ap (option_map Told) still.0)) (one_before n history.at answers last)
+      subst (λ (a : Option Answer). IsTakenLast history n v (a ∷ answers)) (sym (by.1 ∙ ap (option_map Told) still.0)) (one_before history n v answers last)
 
-  pub typed_taken : (answers : List (Option Answer)) (old new : World) → IsUp old.device history → Run next old (typing history.config.form token) answers new → IsTakenLast n history.at answers
+  pub typed_taken : (answers : List (Option Answer)) (old new : World) → IsUp old.device history → Run next old (typing history.config.form token) answers new → IsTakenLast history n v answers
   typed_taken [] old new up run = absurd run
   typed_taken (answer ∷ answers) old new up run =
       let star = starred next answer old run.0 history up run.1 in
       let last = digits_left 1 (digits_of history.config.form token) [] answers run.0 new refl (first_fault-digits_of history.config.form token) star.1 run.2 in
-      subst (λ (a : Option Answer). IsTakenLast n history.at (a ∷ answers)) (sym star.0) (one_before n history.at answers last)
+      subst (λ (a : Option Answer). IsTakenLast history n v (a ∷ answers)) (sym star.0) (one_before history n v answers last)
 
 pub usable_taken : (next : List ℕ → ℕ → ℕ) (start now : World) (answers : List (Option Answer)) (history : History) (order : Order)
-    → Sound next start.tables → IsUp start.device history → IsUsable start.tables history order → Run next start (typing history.config.form order.token) answers now → IsTakenLast order.count history.at answers
+    → Sound next start.tables → IsUp start.device history → IsUsable start.tables history order → Run next start (typing history.config.form order.token) answers now → IsTakenLast history order.count order.value answers
 usable_taken next start now answers history order sound up usable run =
-    typed_taken next history order.token order.count order.value (in_range next start.tables usable.row order sound usable.has).token usable.unblocked
+    typed_taken next history order.token order.count order.value (in_range next start.tables usable.row order sound usable.has).token usable.unblocked usable.valid.2
     (order_found next start.tables usable.row order history sound usable.has usable.matched usable.valid) answers start now up run

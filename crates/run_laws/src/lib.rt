@@ -2,6 +2,8 @@
 // does anything: its contract is a law on the definitions of runs, and the check proves it.
 #![tactic(auto)]
 
+mod unseen;
+
 ghost use Rattle.std.specs.Prelude.{◌≡◌, ℕ, ◌+◌, ◌-◌, ◌^◌, ◌<◌, ◌≤◌, max, List, [], ◌++◌, length, slice_get, Contains, Option, Some};
 ghost use Rattle.paygo_spec.specs.declared.Config.{Config};
 ghost use Rattle.paygo_spec.specs.declared.Form.{Form};
@@ -22,6 +24,8 @@ ghost use Rattle.ledger_spec.specs.Tables.{Tables, order_of, row_of, no_tables, 
 ghost use Rattle.run_spec.specs.Run.{Step, Do, Answer, Did, World, Run};
 ghost use Rattle.run_spec.specs.Downs.{downs};
 ghost use Rattle.run_spec.specs.Headline.{HasOrder, IsMatched, OrdersStand, TokensOnce, Point, IsUp, IsUsable, IsTakenLast, UsablesTaken, typing};
+
+pub use unseen::{counts_are_accepted_once_between_power_ups, orders_stand_over_any_flash};
 
 /// Each `down` of a run is one fault of the flash, which counted it, and nothing else is: behind a run the count is higher by
 /// as much as there are answers `down`, or stands still at 2^64 - 1. So it never falls, and where it stays as it was, below
@@ -112,14 +116,14 @@ pub fn orders_are_found()
         FoundValid order.count order.value }
 {}
 
-/// A token that may be used is accepted where it is typed: the device has no other choice than that its flash fails, or is
-/// worn.
+/// A token that may be used is accepted where it is typed, with its count and value, and the time left is what the value makes of
+/// the time before: the device has no other choice than that its flash fails, or is worn.
 pub fn usable_tokens_are_taken()
     ensures { (next : List ℕ → ℕ → ℕ) (start now : World) (answers : List (Option Answer)) (history : History)
         (order : Order) →
         Sound next start.tables → IsUp start.device history → IsUsable start.tables history order →
         Run next start (typing history.config.form order.token) answers now →
-        IsTakenLast order.count history.at answers }
+        IsTakenLast history order.count order.value answers }
 {}
 
 /// And so it is at each point of a run from sound tables.

@@ -1,14 +1,16 @@
 -- What shop and customer are promised of every run: each order that was answered stands, no token takes effect twice, and
 -- a token that may be used is accepted.
-use Rattle.std.specs.Prelude.{◌≡◌, ℕ, ◌<◌, ◌≤◌, true, List, [], ◌∷◌, ◌++◌, length, take, map, slice_get, Option, Some, None}
+use Rattle.std.specs.Prelude.{◌≡◌, ℕ, ◌+◌, ◌*◌, ◌<◌, ◌≤◌, min, Bool, true, false, List, [], ◌∷◌, ◌++◌, length, take, map, slice_get, Option, Some, None}
 use Rattle.paygo_spec.specs.declared.Config.{Config}
 use Rattle.paygo_spec.specs.declared.Event.TheVariants.{Key}
 use Rattle.paygo_spec.specs.declared.Form.{Form}
 use Rattle.paygo_spec.specs.declared.Reply.TheVariants as reply_is
+use Rattle.paygo_spec.specs.declared.TokenKind.TheVariants.{Add, Set, Free, Sync}
+use Rattle.paygo_spec.specs.Clock.{most_left}
 use Rattle.paygo_spec.specs.Digits.{digits_of}
-use Rattle.paygo_spec.specs.History.{spent, Valid}
-use Rattle.paygo_spec.specs.Layout.{Position, room}
-use Rattle.paygo_spec.specs.Machine.{State, Stored, Journal, History, clock_at}
+use Rattle.paygo_spec.specs.History.{spent, kind_of, Valid}
+use Rattle.paygo_spec.specs.Layout.{room}
+use Rattle.paygo_spec.specs.Machine.{State, Stored, Journal, History, clock_at, unit_for}
 use Rattle.paygo_spec.specs.Searched.{effects}
 use Rattle.ledger_spec.specs.declared.Answer.TheVariants as answer_is
 use Rattle.ledger_spec.specs.declared.Command.{Command}
@@ -73,22 +75,41 @@ pub record IsUsable (tables : Tables) (history : History) (order : Order) : Type
 abbrev pub typing : Form → ℕ → List Step
 typing form token = map (λ key. Act (Key key)) (42 ∷ digits_of form token ++ 35 ∷ [])
 
--- What is answered then: the token is accepted with this count, or the flash is worn and has no room, or it failed.
-abbrev pub IsTaken : ℕ → Position → Option Answer → Type 0
-IsTaken count at (Some (Told (reply_is.Set n value left))) = n ≡ count
-IsTaken count at (Some (Told (reply_is.Added n value left free))) = n ≡ count
-IsTaken count at (Some (Told (reply_is.Free n))) = n ≡ count
-IsTaken count at (Some (Told (reply_is.Synced n))) = n ≡ count
-IsTaken count at (Some (Told reply_is.Worn)) = room at ≡ 0
-IsTaken count at (Some (Told reply_is.Down)) = Unit {0}
-IsTaken count at _ = ⊥
+-- A set token was accepted: the answer says its count and value, and so many units of time are left.
+pub record IsSetTo (history : History) (count value n v left : ℕ) : Type 0 where
+  pub kind : kind_of count value ≡ Some Set
+  pub count_is : n ≡ count
+  pub value_is : v ≡ value
+  pub left_is : left ≡ value * unit_for history
+
+-- An add token was accepted: the answer says its count and value, and the time left is that of before with so many units
+-- more, at most 10^12 seconds. On a free device time stays as it was.
+pub record IsAddedTo (history : History) (count value n v left : ℕ) (free : Bool) : Type 0 where
+  pub kind : kind_of count value ≡ Some Add
+  pub count_is : n ≡ count
+  pub value_is : v ≡ value
+  pub free_is : free ≡ (clock_at history history.entries).free
+  pub added : free ≡ false
+      → left ≡ min ((clock_at history history.entries).left + value * unit_for history) most_left
+  pub stays : free ≡ true → left ≡ (clock_at history history.entries).left
+
+-- What a device with this history answers then: the token is accepted with this count and value, and the time left is what
+-- the value makes of the time before; or the flash is worn and has no room, or it failed.
+abbrev pub IsTaken : History → ℕ → ℕ → Option Answer → Type 0
+IsTaken history count value (Some (Told (reply_is.Set n v left))) = IsSetTo history count value n v left
+IsTaken history count value (Some (Told (reply_is.Added n v left free))) = IsAddedTo history count value n v left free
+IsTaken history count value (Some (Told (reply_is.Free n))) = (kind_of count value ≡ Some Free) × (n ≡ count)
+IsTaken history count value (Some (Told (reply_is.Synced n))) = (kind_of count value ≡ Some Sync) × (n ≡ count)
+IsTaken history count value (Some (Told reply_is.Worn)) = room history.at ≡ 0
+IsTaken history count value (Some (Told reply_is.Down)) = Unit {0}
+IsTaken history count value _ = ⊥
 
 -- The last answer is that, and nothing is answered before.
-abbrev pub IsTakenLast : ℕ → Position → List (Option Answer) → Type 0
-IsTakenLast count at [] = ⊥
-IsTakenLast count at (answer ∷ []) = IsTaken count at answer
-IsTakenLast count at (None ∷ answers) = IsTakenLast count at answers
-IsTakenLast count at _ = ⊥
+abbrev pub IsTakenLast : History → ℕ → ℕ → List (Option Answer) → Type 0
+IsTakenLast history count value [] = ⊥
+IsTakenLast history count value (answer ∷ []) = IsTaken history count value answer
+IsTakenLast history count value (None ∷ answers) = IsTakenLast history count value answers
+IsTakenLast history count value _ = ⊥
 
 -- A point of a run: what came before it, what stands there, and what comes behind it.
 pub record Point (next : List ℕ → ℕ → ℕ) (start : World) (steps : List Step) (answers : List (Option Answer))
@@ -103,10 +124,11 @@ pub record Point (next : List ℕ → ℕ → ℕ) (start : World) (steps : List
   pub came : Run next start done answered here
   pub goes_on : Run next here others later now
 
--- Wherever in the run a token that may be used is typed, it is accepted.
+-- Wherever in the run a token that may be used is typed, it is accepted, and what was paid for arrives.
 abbrev pub UsablesTaken : (List ℕ → ℕ → ℕ) → World → List Step → List (Option Answer) → World → Type 0
 UsablesTaken next start steps answers now =
     (point : Point next start steps answers now) (history : History) (order : Order) (rest : List Step)
     → IsUp point.here.device history → IsUsable point.here.tables history order
     → point.others ≡ typing history.config.form order.token ++ rest
-    → IsTakenLast order.count history.at (take (length (typing history.config.form order.token)) point.later)
+    → IsTakenLast history order.count order.value
+    (take (length (typing history.config.form order.token)) point.later)

@@ -1,5 +1,5 @@
 -- Bytes cut into lines. A line ends with the byte 10, which isn't part of it.
-use Rattle.std.specs.Prelude.{ℕ, ◌==◌, List, [], ◌∷◌, ◌++◌, if◌then◌else◌}
+use Rattle.std.specs.Prelude.{ℕ, zero, suc, ◌==◌, List, [], ◌∷◌, ◌++◌, if◌then◌else◌}
 
 -- The whole lines of what begins with this part of a line and goes on with these bytes.
 abbrev pub lines_from : List ℕ → List ℕ → List (List ℕ)
@@ -23,3 +23,9 @@ last_line (byte ∷ bytes) = (byte ∷ bytes) ∷ []
 -- All lines of an input that has ended.
 abbrev pub all_lines : List ℕ → List (List ℕ)
 all_lines bytes = whole_lines bytes ++ last_line (rest_from [] bytes)
+
+-- What stands behind the first n ends of a line: nothing where there are fewer.
+abbrev pub behind : ℕ → List ℕ → List ℕ
+behind zero bytes = bytes
+behind (suc n) [] = []
+behind (suc n) (byte ∷ bytes) = if byte == 10 then behind n bytes else behind (suc n) bytes

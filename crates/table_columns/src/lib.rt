@@ -9,4 +9,4 @@ mod rows;
 
 pub use changes::{change_at, changes_of};
 pub use orders::{ask_number, asked_number, kind_number, order_at, orders_of};
-pub use rows::{row_at, rows_of};
+pub use rows::{form_at, row_at, rows_of};

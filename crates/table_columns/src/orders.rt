@@ -1,6 +1,8 @@
 // Orders.
-ghost use Rattle.std.specs.Prelude.{◌≡◌, ◌≤◌, ◌↔◌, IsTrue, IfSome, IfOk, All};
+ghost use Rattle.std.specs.Prelude.{◌≡◌, ◌≤◌, ◌↔◌, pos, Some, None, Err, IsTrue, IfSome, IsSomeAnd, IfOk, All, map};
+ghost use Rattle.ledger_spec.specs.declared.KeeperFault.TheVariants.{Failed};
 ghost use Rattle.ledger_spec.specs.Tables.{OrderIsInRange, AskIsInRange};
+ghost use Rattle.table_columns.specs.Said.{order_said, ask_in, ask_code, asked_code, kind_in, kind_code};
 
 use crate::columns::{name, number, number16, number32};
 use ledger_spec::{Ask, KeeperFault, Kind, Order};
@@ -11,7 +13,9 @@ use std::alloc::Global;
 /// The order that the first eight columns say: id, serial, ask, asked, kind, count, value and token. None where one of them
 /// holds something else, or the order is out of range.
 pub fn order_at(columns: &Columns) -> Option<Order>
-    ensures { IfSome result OrderIsInRange }
+    ensures said { IfSome result (λ order. order_said columns.now ≡ Some order) }
+    ensures in_range { IfSome result OrderIsInRange }
+    ensures refused { result ≡ None → IfSome (order_said columns.now) (λ order. ¬ OrderIsInRange order) }
 {
     let order = untested_order(columns)?;
     if is_in_range(&order) {
@@ -22,7 +26,10 @@ pub fn order_at(columns: &Columns) -> Option<Order>
 }
 
 // The order that the columns say, in range or not.
-fn untested_order(columns: &Columns) -> Option<Order> {
+#[tactic(auto, unfolding(crate::specs::Said::order_said))]
+fn untested_order(columns: &Columns) -> Option<Order>
+    ensures { result ≡ order_said columns.now }
+{
     Some(Order {
         id: name(columns, 0, 32)?,
         serial: name(columns, 1, 32)?,
@@ -35,7 +42,9 @@ fn untested_order(columns: &Columns) -> Option<Order> {
 }
 
 // What is asked, by its number and the number asked.
-fn ask_of(ask: u64, asked: u64) -> Option<Ask> {
+fn ask_of(ask: u64, asked: u64) -> Option<Ask>
+    ensures { result ≡ ask_in ask asked }
+{
     match ask {
         0 => Some(Ask::Pay(asked)),
         1 => Some(Ask::Set(u16::try_from(asked).ok()?)),
@@ -46,7 +55,9 @@ fn ask_of(ask: u64, asked: u64) -> Option<Ask> {
 }
 
 /// The number in the column `ask`: 0 to pay, 1 to set, 2 to disable, 3 to sync.
-pub fn ask_number(ask: Ask) -> i64 {
+pub fn ask_number(ask: Ask) -> i64
+    ensures { result ≡ pos (ask_code ask) }
+{
     match ask {
         Ask::Pay(_) => 0,
         Ask::Set(_) => 1,
@@ -56,7 +67,10 @@ pub fn ask_number(ask: Ask) -> i64 {
 }
 
 /// The number in the column `asked`: the amount or the units, and 0 where neither is asked.
-pub fn asked_number(ask: Ask) -> u64 {
+pub fn asked_number(ask: Ask) -> u64
+    ensures number { result ≡ asked_code ask }
+    ensures read_back { ask_in (ask_code ask) result ≡ Some ask }
+{
     match ask {
         Ask::Pay(amount) => amount,
         Ask::Set(units) => u64::from(units),
@@ -65,7 +79,9 @@ pub fn asked_number(ask: Ask) -> u64 {
 }
 
 // What a token does, by its number.
-fn kind_of(kind: u64) -> Option<Kind> {
+fn kind_of(kind: u64) -> Option<Kind>
+    ensures { result ≡ kind_in kind }
+{
     match kind {
         0 => Some(Kind::Add),
         1 => Some(Kind::Set),
@@ -76,7 +92,10 @@ fn kind_of(kind: u64) -> Option<Kind> {
 }
 
 /// The number in the column `kind`: 0 to add, 1 to set, 2 to disable, 3 to sync.
-pub fn kind_number(kind: Kind) -> i64 {
+pub fn kind_number(kind: Kind) -> i64
+    ensures number { result ≡ pos (kind_code kind) }
+    ensures read_back { kind_in (kind_code kind) ≡ Some kind }
+{
     match kind {
         Kind::Add => 0,
         Kind::Set => 1,
@@ -113,8 +132,12 @@ fn is_in_range(order: &Order) -> bool
 /// # Errors
 ///
 /// `Failed` where one of them says no order, or one out of range; `Memory` where there is none.
+#[tactic(auto, using(crate::proofs::Lists::said_more, crate::proofs::Lists::not_all))]
 pub fn orders_of(alloc: Global, all: &[Columns]) -> Result<Vec<Order>, KeeperFault>
-    ensures { IfOk result (λ list. All OrderIsInRange list.items) }
+    ensures said { IfOk result (λ list. map Some list.items ≡ map order_said all.now) }
+    ensures in_range { IfOk result (λ list. All OrderIsInRange list.items) }
+    ensures failed { result ≡ Err KeeperFault.Failed →
+        ¬ (All (λ columns. IsSomeAnd (order_said columns) OrderIsInRange) all.now) }
 {
     let mut orders = Vec::new(alloc);
     for columns in all {

@@ -31,7 +31,7 @@ first_values : (f : ℕ → ℕ) (few bound : ℕ) → few ≤ bound → take fe
 unfolding values_below
 first_values f few bound within = take-map-range_with_len f 0 bound few within
 
--- a token that stands once in the list is that of no other count
+-- a token that stands once among those of the counts up to 4,095 and up to its own is that of no other of these counts
 once_is_clean : (f : ℕ → ℕ) (bound n : ℕ) → n < bound → 4095 < bound → is_once (values_below f bound) n ≡ stands_alone f n (max 4095 n + 1)
 once_is_clean f bound n below long =
     let within : max 4095 n + 1 ≤ bound = omega arith in

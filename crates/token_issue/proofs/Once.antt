@@ -1,4 +1,4 @@
--- A value that stands once in the list of all values is that of one number alone.
+-- A value that stands once in a list of values is that of one number of the list alone.
 use Rattle.std.proofs.Common.{◌≡◌, ◌⊎◌, inl, inr, ℕ, zero, suc, ◌+◌, ◌<◌, Bool, true, false, ◌&&◌, ◌==◌, cond, nat_lt, refl, sym, ap, ◌∙◌, subst, add-one, arith}
 use Rattle.std.specs.List.{count_by}
 use Rattle.std.proofs.lemmas.Bool.{cases_Bool, cases_eq}

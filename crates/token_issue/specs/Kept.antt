@@ -1,5 +1,5 @@
 -- The lists of tokens that are kept from call to call, by their keys, the most recently used first.
-use Rattle.std.specs.Prelude.{◌≡◌, ◌⊎◌, ℕ, Bool, false, ◌&&◌, ◌||◌, ◌==◌, cond, nat_eq, List, [], ◌∷◌, take, Contains, Vec}
+use Rattle.std.specs.Prelude.{◌≡◌, ℕ, Bool, false, ◌&&◌, ◌||◌, ◌==◌, cond, nat_eq, List, [], ◌∷◌, take, Contains, Vec}
 use Rattle.std.specs.Cmp.Lexicographic.{pointwise}
 use Rattle.std.specs.declared.alloc.Global.{Global}
 use Rattle.paygo_spec.specs.Chain.{first_code}
@@ -28,9 +28,9 @@ without table (kept ∷ others) = cond (same_table table kept) others (kept ∷ 
 abbrev pub front : TableKey → List TableKey → List TableKey
 front table kept = table ∷ without table kept
 
--- A new list is kept in front, and the last of eight others goes; or no memory was found for it, and all stays.
-abbrev pub IsKeptOrNot : TableKey → List TableKey → List TableKey → Type 0
-IsKeptOrNot table old new = (new ≡ old) ⊎ (new ≡ table ∷ take 7 old)
+-- The keys after a new list: it is kept in front, and the last of eight others goes.
+abbrev pub new_front : TableKey → List TableKey → List TableKey
+new_front table kept = table ∷ take 7 kept
 
 -- Each list that is kept has the tokens of its key.
 abbrev pub AreTables : (List ℕ → ℕ → ℕ) → List (TableKey × Vec ℕ Global) → Type 0

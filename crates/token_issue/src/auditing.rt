@@ -5,8 +5,7 @@ ghost use Rattle.paygo_spec.specs.Chain.{first_code, with_base, token_base_of};
 ghost use Rattle.token_issue.specs.Audit.{is_right, JobIsInRange, fits_at};
 
 use crate::job::Job;
-use paygo_outside::Memory;
-use paygo_spec::LAST;
+use paygo_spec::{LAST, Memory};
 use std::alloc::Global;
 use token_chain::{Mixer, put, token_base};
 

@@ -3,7 +3,7 @@
 ghost use Rattle.std.specs.Prelude.{◌≡◌, ◌≢◌, ◌+◌, ◌<◌, ◌≤◌, ◌^◌, true, false, Some, None, Err, IfOk, IsOk, OnOk, OnErr};
 ghost use Rattle.ledger_spec.specs.Issuing.{is_clean, pick};
 ghost use Rattle.ledger_spec.specs.Tables.{is_limit};
-ghost use Rattle.token_issue.specs.Kept.{key_of, is_kept, front, IsKeptOrNot};
+ghost use Rattle.token_issue.specs.Kept.{key_of, is_kept, front, new_front};
 ghost use Rattle.token_issue.specs.Lists.{counts_for};
 
 use crate::listing::tokens_of;
@@ -11,29 +11,28 @@ use crate::searching::{self, least_clean};
 use crate::table_key::table_of;
 use crate::tables::Tables;
 use ledger_spec::Kind;
-use paygo_outside::Memory;
-use paygo_spec::{GREAT, LAST};
+use paygo_spec::{GREAT, LAST, Memory};
 use std::alloc::Global;
 use token_chain::Mixer;
 
 /// Why no count is issued.
 #[derive(Clone, Copy, Debug, PartialEq, Eq)]
 pub enum IssueFault {
-    /// No count may be issued.
+    /// No count above the last one and up to the limit, of the kind's parity, is clean.
     NoCount,
-    /// There was no memory for the list of tokens.
+    /// There was no memory for the list of tokens, or for keeping it.
     Memory,
 }
 
 /// The count at which a token of this kind and value is issued to the device with this key and starting code: the least
-/// one above its last count and up to its limit, of the kind's parity, whose token no other count has. `NoCount` comes
-/// exactly where there is none.
+/// one above its last count and up to its limit, of the kind's parity, whose token no other count has, of those up to
+/// 4,095 and up to its own. `NoCount` comes exactly where there is none.
 ///
 /// The starting code is below 1,000,000,000, the value is from 0 to 999, the limit is 4,095 or 16,383, and the last
 /// count is at most the limit.
 ///
-/// The call asks the list of the tokens of all counts up to the limit. It takes memory only where the list isn't kept;
-/// `Memory` leaves the lists that are kept as they were.
+/// The call asks the list of the tokens of all counts up to the limit. It takes memory only where the list isn't kept, and keeps
+/// it then, in front of those that are kept; `Memory` leaves these as they were.
 #[tactic(auto, using(crate::proofs::Listed::listed_pick, crate::proofs::Listed::values_length))]
 pub fn next_count<M: Mixer>(
     alloc: Global,
@@ -60,7 +59,7 @@ pub fn next_count<M: Mixer>(
     ensures used { let list = key_of key.now start value (limit + 1) in
         is_kept list tables.old ≡ true → tables.new ≡ front list tables.old }
     ensures new { let list = key_of key.now start value (limit + 1) in
-        is_kept list tables.old ≡ false → result ≢ Err IssueFault.Memory → IsKeptOrNot list tables.old tables.new }
+        is_kept list tables.old ≡ false → result ≢ Err IssueFault.Memory → tables.new ≡ new_front list tables.old }
     ensures memory { result ≡ Err IssueFault.Memory → tables.new ≡ tables.old }
 {
     let table = table_of(key, start, value, limit + 1);
@@ -73,7 +72,9 @@ pub fn next_count<M: Mixer>(
         return Err(IssueFault::Memory);
     };
     let found = least_clean(&tokens, last, limit, kind);
-    tables.keep(table, tokens);
+    if tables.keep(table, tokens).is_err() {
+        return Err(IssueFault::Memory);
+    }
     found.ok_or(IssueFault::NoCount)
 }
 
@@ -83,7 +84,8 @@ pub fn next_count<M: Mixer>(
 /// The starting code is below 1,000,000,000, the count is from 0 to 16,383, and the value is from 0 to 999.
 ///
 /// The call asks the list of the tokens of 4,096 counts where that has the count, and of 16,384 counts where it hasn't.
-/// It takes memory only where the list isn't kept; `Memory` leaves the lists that are kept as they were.
+/// It takes memory only where the list isn't kept, and keeps it then, in front of those that are kept; `Memory` leaves these
+/// as they were.
 #[tactic(auto, using(crate::proofs::Listed::listed_clean, crate::proofs::Listed::values_length))]
 pub fn clean<M: Mixer>(
     alloc: Global,
@@ -106,7 +108,7 @@ pub fn clean<M: Mixer>(
     ensures used { let list = key_of key.now start value (counts_for count) in
         is_kept list tables.old ≡ true → tables.new ≡ front list tables.old }
     ensures new { let list = key_of key.now start value (counts_for count) in
-        is_kept list tables.old ≡ false → OnOk result (IsKeptOrNot list tables.old tables.new) }
+        is_kept list tables.old ≡ false → OnOk result (tables.new ≡ new_front list tables.old) }
     ensures memory { OnErr result (tables.new ≡ tables.old) }
 {
     let table = table_of(key, start, value, counts_for(count));
@@ -117,7 +119,7 @@ pub fn clean<M: Mixer>(
     }
     let tokens = tokens_of::<M>(alloc, &table)?;
     let answer = searching::is_clean(&tokens, count);
-    tables.keep(table, tokens);
+    tables.keep(table, tokens)?;
     Ok(answer)
 }
 

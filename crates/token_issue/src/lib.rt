@@ -1,8 +1,9 @@
 //! Which count is issued next. A token is nine digits, and the customer types no count: so the shop issues a token only
-//! at a count at which no other count has the same digits. Such a count is called clean.
+//! at a count whose digits no other count has, of those up to 4,095 and up to its own. Such a count is called clean. A
+//! greater count may have the same digits.
 //!
-//! The tokens of all counts of a chain are reckoned once a call, as a list, and a count is clean where its token stands
-//! there once.
+//! The tokens of all counts of a chain up to the limit are reckoned as a list, which is kept for later calls, and a count
+//! is clean where its token stands once among those up to 4,095 and up to its own.
 #![tactic(auto)]
 
 mod auditing;

@@ -4,7 +4,7 @@ ghost use Rattle.std.specs.Prelude.{◌≡◌, ◌<◌, ◌^◌, IfOk};
 ghost use Rattle.token_issue.specs.Lists.{tokens_from};
 
 use crate::table_key::TableKey;
-use paygo_outside::Memory;
+use paygo_spec::Memory;
 use std::alloc::Global;
 use token_chain::{Mixer, Walk};
 

@@ -1,4 +1,4 @@
-//! Which counts are clean, by the list of all tokens.
+//! Which counts are clean, by the list of the tokens up to the limit.
 
 ghost use Rattle.std.specs.Prelude.{◌≡◌, ◌+◌, ◌<◌, ◌≤◌, length};
 ghost use Rattle.paygo_spec.specs.Least.{least};
@@ -39,7 +39,8 @@ fn is_next(tokens: &[u32], last: u16, kind: Kind, count: u16) -> bool
     count > last && count % 2 == parity(kind) && is_clean(tokens, count)
 }
 
-/// The least count above the last one, of the kind's parity, whose token no other count has, if the list has one.
+/// The least count above the last one, of the kind's parity, whose token no other count has, of those up to 4,095 and up
+/// to its own, if the list has one.
 #[tactic(auto, using(paygo_spec::proofs::Leasts::least_none, paygo_spec::proofs::Leasts::least_skip, paygo_spec::proofs::Leasts::least_found))]
 pub(crate) fn least_clean(tokens: &[u32], last: u16, limit: u16, kind: Kind) -> Option<u16>
     requires whole { LAST ≤ limit }

@@ -1,12 +1,12 @@
 //! The lists of tokens that are kept from call to call.
 
-ghost use Rattle.std.specs.Prelude.{◌≡◌, ◌≤◌, true, false, [], length, is_some, IfOk, IfSome};
+ghost use Rattle.std.specs.Prelude.{◌≡◌, ◌≤◌, true, false, [], length, is_some, IfOk, IfSome, OnOk, OnErr};
 ghost use Rattle.token_issue.specs.Lists.{tokens_from};
-ghost use Rattle.token_issue.specs.Kept.{is_kept, front, IsKeptOrNot};
+ghost use Rattle.token_issue.specs.Kept.{is_kept, front, new_front};
 
 use crate::table_key::TableKey;
 use lru::LruCache;
-use paygo_outside::Memory;
+use paygo_spec::Memory;
 use std::alloc::Global;
 use std::marker::{Model, PhantomData};
 use std::num::NonZeroUsize;
@@ -81,15 +81,20 @@ impl<M: Mixer> Tables<M> {
         self.cache.promote(table);
     }
 
-    /// Keeps a new list in front, in place of the last of eight. Where the cache finds no memory, all stays as it was.
-    pub(crate) fn keep(&mut self, table: TableKey, tokens: Vec<u32>)
+    /// Keeps a new list in front, in place of the last of eight.
+    ///
+    /// # Errors
+    ///
+    /// `Memory` where the cache found none: all stays as it was, and the list is let go.
+    pub(crate) fn keep(&mut self, table: TableKey, tokens: Vec<u32>) -> Result<(), Memory>
         requires new { is_kept table self.old ≡ false }
         requires tokens { tokens.items ≡ tokens_from (M.next table.key) table.code table.counts }
-        ensures { IsKeptOrNot table self.old self.new }
+        ensures kept { OnOk result (self.new ≡ new_front table self.old) }
+        ensures memory { OnErr result (self.new ≡ self.old) }
     {
         match self.cache.put(table, tokens) {
-            Ok(_) => {}
-            Err(_) => {}
+            Ok(_) => Ok(()),
+            Err(_) => Err(Memory),
         }
     }
 }

@@ -12,8 +12,9 @@ mod rows;
 mod streams;
 
 use ledger_keeper::MemKeeper;
+use memory_ports::{MemFlash, MemSink, MemSource};
 use paygo_cli::{Status, run};
-use paygo_outside::{MemFlash, MemSink, MemSource, Memory};
+use paygo_spec::Memory;
 use std::alloc::Global;
 use token_chain::{Mixer, Plain, Stride};
 

@@ -4,8 +4,9 @@ ghost use Rattle.std.specs.Prelude.{◌≡◌, true, IfSome, IfOk, OnOk};
 ghost use Rattle.paygo_spec.specs.Recovery.{Made, recover};
 
 use crate::{Config, Entry, Journal, JournalFault, load, make};
-use paygo_outside::{Cut, Flash, MemFlash};
-use paygo_spec::Form;
+use memory_ports::MemFlash;
+use paygo_ports::Flash;
+use paygo_spec::{Cut, Form};
 
 /// What the devices of these tests are made with.
 const CONFIG: Config = Config {

@@ -2,7 +2,8 @@
 ghost use Rattle.std.specs.Prelude.{◌≡◌, ◌<◌, true};
 
 use crate::{JournalFault, load};
-use paygo_outside::{Flash, MemFlash};
+use memory_ports::MemFlash;
+use paygo_ports::Flash;
 
 /// An erased word.
 const ERASED: u64 = u64::MAX;

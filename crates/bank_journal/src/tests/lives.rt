@@ -1,6 +1,6 @@
 // What stands on the flash of a device after its first steps, worked out by hand.
 use crate::{Config, Entry, make};
-use paygo_outside::MemFlash;
+use memory_ports::MemFlash;
 use paygo_spec::Form;
 
 #[test]

@@ -1,4 +1,6 @@
-use Rattle.std.proofs.Common.{arith, subst, sym}
+use Rattle.std.proofs.Common.{ap, ◌∙◌, arith, subst, sym}
+use Rattle.paygo_spec.specs.Digits.{value_of}
+use Rattle.digit_set.proofs.Tokens.{value_of-digits_of}
 use Rattle.digit_set.proofs.Writing.{IsWritten, written_none, written_more, written_all}
 use Rattle.digit_set.proofs.write.Goals as goal
 
@@ -21,3 +23,9 @@ pub returns-clause-rest : goal.returns-clause-rest
 returns-clause-rest c =
     (written_all c.args.form c.args.token c.loop-place.place c.loop-place.rest c.length-count.result c.args.out.now c.loop-place.out
     (omega arith) c.length-count.ensures c.loop-place.invariant).1
+
+pub returns-clause-back : goal.returns-clause-back
+returns-clause-back c = λ small.
+    ap (value_of c.args.form)
+    (written_all c.args.form c.args.token c.loop-place.place c.loop-place.rest c.length-count.result c.args.out.now c.loop-place.out (omega arith) c.length-count.ensures c.loop-place.invariant).0
+    ∙ value_of-digits_of c.args.form c.args.token small

@@ -1,17 +1,11 @@
 // The lines of answers, letter by letter.
-ghost use Rattle.std.specs.Prelude.{◌≡◌, ◌≤◌, ◌<◌, ◌*◌, ◌^◌, ◌⊎◌, length};
-ghost use Rattle.ledger_spec.specs.Ledger.{AnswerIsInRange};
-ghost use Rattle.ledger_spec.specs.Tables.{RowIsInRange, OrderIsInRange, AskIsInRange};
-
 use super::*;
 use ledger_spec::{Ask, Kind, Name, Order, PriceChange, Row};
 use paygo_spec::Form;
 use std::process::Abort;
 
 // The answer has this line, and is written so, with the rest left as it was.
-fn write_is(rt: &impl Abort, answer: &Answer, want: &[u8])
-    requires { AnswerIsInRange answer.now }
-{
+fn write_is(rt: &impl Abort, answer: &Answer, want: &[u8]) {
     assert!(rt; answer_line(answer).as_bytes() == want);
     let mut out = [7; 512];
     let count = write(answer, &mut out);
@@ -19,17 +13,12 @@ fn write_is(rt: &impl Abort, answer: &Answer, want: &[u8])
     assert!(rt; &out[..count] == want && out[511] == 7);
 }
 
-fn name(rt: &impl Abort, bytes: &[u8]) -> Name
-    ensures { length result ≤ 16 }
-{
+fn name(rt: &impl Abort, bytes: &[u8]) -> Name {
     Name::of(bytes, 16).expect(rt, "a name")
 }
 
 // The row of the device A1, with a key that isn't written.
-fn row(rt: &impl Abort, paid: u64, last: u16, limit: u16) -> Row
-    requires { ((limit ≡ 4095) ⊎ (limit ≡ 16383)) × (last ≤ 4095) × (paid ≤ last * 10 ^ 12) }
-    ensures { RowIsInRange result }
-{
+fn row(rt: &impl Abort, paid: u64, last: u16, limit: u16) -> Row {
     Row {
         serial: name(rt, b"A1"),
         key: *b"0123456789abcdef",
@@ -46,10 +35,7 @@ fn row(rt: &impl Abort, paid: u64, last: u16, limit: u16) -> Row
     }
 }
 
-fn order(rt: &impl Abort, id: &[u8], ask: Ask, kind: Kind, value: u16, token: u32) -> Order
-    requires { AskIsInRange ask × (value ≤ 999) × (token < 10 ^ 9) }
-    ensures { OrderIsInRange result }
-{
+fn order(rt: &impl Abort, id: &[u8], ask: Ask, kind: Kind, value: u16, token: u32) -> Order {
     Order {
         id: name(rt, id),
         serial: name(rt, b"A1"),

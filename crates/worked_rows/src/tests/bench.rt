@@ -2,8 +2,9 @@
 use super::ledger::{ENROLL, ORDER, PAY, ROW};
 use super::{BENCH, CALM, MADE, MAKE, joined, ran, repeated, well};
 use ledger_keeper::MemKeeper;
+use memory_ports::MemFlash;
 use paygo_cli::Status;
-use paygo_outside::{Cut, MemFlash, Memory};
+use paygo_spec::{Cut, Memory};
 use std::alloc::Global;
 use token_chain::Stride;
 

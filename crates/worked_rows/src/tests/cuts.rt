@@ -1,7 +1,8 @@
 // Power cuts: at each call of the flash, an event counts wholly or not at all, and what was answered counts wholly.
 use super::bench::a_month;
 use super::{BENCH, DEVICE, KEEPS, MADE, MAKE, joined, repeated, said_by};
-use paygo_outside::{Cut, MemFlash, Memory};
+use memory_ports::MemFlash;
+use paygo_spec::{Cut, Memory};
 use std::alloc::Global;
 use std::process::Abort;
 

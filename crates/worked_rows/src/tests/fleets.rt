@@ -1,8 +1,9 @@
 // Fleets that are drawn from a number.
 use super::{CALM, Plan, answered, ran};
 use ledger_keeper::MemKeeper;
+use memory_ports::MemFlash;
 use paygo_cli::Status;
-use paygo_outside::{MemFlash, Memory};
+use paygo_spec::Memory;
 use token_chain::Plain;
 
 /// One device over five days, on a chain whose codes are 7,000 apart. On day 0 a week is paid; wrong digits block the pad, behind

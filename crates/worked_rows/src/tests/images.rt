@@ -1,6 +1,7 @@
 // What a device makes of a flash that it didn't write itself: damage is found at its place, and nothing is guessed.
 use super::said;
-use paygo_outside::{MemFlash, Memory};
+use memory_ports::MemFlash;
+use paygo_spec::Memory;
 use std::alloc::Global;
 
 /// The word in which a number stands.

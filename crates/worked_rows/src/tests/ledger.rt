@@ -1,7 +1,7 @@
 // What the lines of the shop are answered.
 use super::{joined, repeated, served};
 use ledger_keeper::MemKeeper;
-use paygo_outside::Memory;
+use paygo_spec::Memory;
 use token_chain::{Mixer, Stride};
 
 /// A device that is enrolled, and its row.

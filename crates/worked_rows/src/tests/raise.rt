@@ -1,7 +1,8 @@
 // A device is raised: from then on it takes counts up to 16,383, and nothing that was used counts again.
 use super::images::{fresh_words, rail};
 use super::{said, said_under};
-use paygo_outside::{MemFlash, Memory};
+use memory_ports::MemFlash;
+use paygo_spec::Memory;
 use std::alloc::Global;
 use token_chain::{Plain, Stride};
 

@@ -2,8 +2,9 @@
 use super::ledger::{ENROLL, ORDER, PAY, ROW};
 use super::{CALM, Plan, SERVE, joined, ran, served};
 use ledger_keeper::MemKeeper;
+use memory_ports::MemFlash;
 use paygo_cli::Status;
-use paygo_outside::{MemFlash, Memory};
+use paygo_spec::Memory;
 use std::alloc::Global;
 use std::process::Abort;
 use token_chain::Stride;

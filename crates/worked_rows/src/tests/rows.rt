@@ -1,7 +1,8 @@
 // What the lines of a device are answered.
 use super::{CALM, DEVICE, MADE, MAKE, Plan, answered, joined, repeated, said};
+use memory_ports::MemFlash;
 use paygo_cli::Status;
-use paygo_outside::{MemFlash, Memory};
+use paygo_spec::Memory;
 use std::alloc::Global;
 
 /// The lines that make a fresh device that takes fifteen digits.

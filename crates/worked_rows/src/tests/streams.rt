@@ -2,8 +2,9 @@
 use super::{CALM, DEVICE, Plan, answered};
 use bench_run::{Lines, LinesFault, Next};
 use ledger_keeper::MemKeeper;
+use memory_ports::{MemFlash, MemSink, MemSource, WatchedSink, WatchedSource};
 use paygo_cli::{Status, run};
-use paygo_outside::{MemFlash, MemSink, MemSource, Memory, WatchedSink, WatchedSource};
+use paygo_spec::Memory;
 use std::cell::Cell;
 use token_chain::Stride;
 

@@ -50,8 +50,8 @@ returns-in-Some g c =
       causes = promised.causes;
       long = promised.long;
       read = promised.read;
-      run = λ bytes before tables stored left written agree. promised.run bytes before (beginning tables stored first.desk.flash.faults) left written refl
+      run = λ tables stored agree. promised.run (beginning tables stored first.desk.flash.faults) refl
           (begins_seen c.args.mode c.start-bench.result first.desk.keeper first.desk.flash first.desk.sink tables stored c.start-bench.ensures.off c.start-bench.ensures.pad agree);
-      unseen = λ bytes before tables stored left written told. promised.unseen bytes before (beginning tables stored first.desk.flash.faults) left written refl
+      unseen = λ tables stored told. promised.unseen (beginning tables stored first.desk.flash.faults) refl refl
           (begins_unseen c.args.mode c.start-bench.result first.desk.keeper first.desk.flash first.desk.sink tables stored c.start-bench.ensures.off c.start-bench.ensures.pad told);
     }

@@ -5,7 +5,7 @@ use Rattle.bench_run.specs.Reader.{Hands}
 use Rattle.bench_run.specs.Bench.{desk, Works, of_line}
 use Rattle.line_loop.specs.Runs.{outside}
 use Rattle.line_loop.specs.Turn.{parts}
-use Rattle.line_loop.proofs.Turning.{took, no_ledger_fault, blamed, blamed_sink, steps_long}
+use Rattle.line_loop.proofs.Turning.{took, front_short, no_ledger_fault, blamed, blamed_sink, steps_long}
 use Rattle.line_loop.proofs.running.turn.Goals as goal
 
 pub returns-in-Ok-Line-clause-turned : goal.returns-in-Ok-Line-clause-turned
@@ -13,7 +13,9 @@ returns-in-Ok-Line-clause-turned g c =
     let old = parts c.args.lines.now (g.S.Source.view c.args.source.now) (desk c.args.bench.now (g.D.Keeper.view c.args.keeper.now) (g.F.Flash.view c.args.flash.now) (g.K.Sink.view c.args.sink.now)) in
     let new = parts c.next.new.self (g.S.Source.view c.next.new.source) (desk c.line.new.self (g.D.Keeper.view c.line.new.keeper) (g.F.Flash.view c.line.new.flash) (g.K.Sink.view c.line.new.sink)) in
     let hands = subst (λ (n : Next). Hands (Ok n) c.next.new.line old.lines new.lines old.source new.source) c.in-Ok-Line.field-0-is c.in-Ok-Line.ensures in
-    rw c.ended.ensures (took g.M.Mixer.next c.args.mode c.line.result hands.came (take c.in-Ok-Line.len c.next.new.line) old new hands.counts hands.answer.2 c.line.ensures.works c.line.ensures.ledger)
+    let line = take c.in-Ok-Line.len c.next.new.line in
+    rw c.ended.ensures (took g.M.Mixer.next c.args.mode c.line.result hands.came line old new hands.counts hands.answer.2 hands.ahead c.line.ensures.works
+    (λ bad. let is = c.line.ensures.ledger bad in record { takes = is.0; short = front_short c.in-Ok-Line.len c.next.new.line hands.answer.0; is_ledger = is.1 }))
 
 pub returns-in-Ok-Long-clause-turned : goal.returns-in-Ok-Long-clause-turned
 returns-in-Ok-Long-clause-turned g c =
@@ -25,7 +27,7 @@ returns-in-Ok-Long-clause-turned g c =
     let line = hands.answer.0 in
     let works = subst (λ (steps : List Step). Works g.M.Mixer.next c.args.mode steps (of_line c.long.result) old.desk new.desk)
     (sym (steps_long c.args.mode line c.in-Ok-Long.length hands.answer.1 hands.answer.2)) (c.long.ensures.works c.args.mode c.args.bench.now keeper flash) in
-    rw c.long_ended.ensures (rw c.long.ensures.same (took g.M.Mixer.next c.args.mode (of_line c.long.result) hands.came line old new hands.counts hands.answer.3 works
+    rw c.long_ended.ensures (rw c.long.ensures.same (took g.M.Mixer.next c.args.mode (of_line c.long.result) hands.came line old new hands.counts hands.answer.3 hands.ahead works
     (λ bad. absurd (no_ledger_fault c.long.result bad))))
 
 pub returns-in-Ok-Line-clause-causes : goal.returns-in-Ok-Line-clause-causes

@@ -4,7 +4,7 @@ use Rattle.bench_run.proofs.lines.Lines.take_piece.Goals as goal
 
 pub returns-in-Some : goal.returns-in-Some
 returns-in-Some c =
-    some_piece _ _ _ _ _ _ _ _ _ _ _ c.in-Some.at c.self.view_is (sym c.position_of_end.ensures ∙ c.in-Some.is) c.put-size.ensures.size c.put-size.ensures.front
+    some_piece _ _ _ _ _ _ _ _ _ _ _ c.in-Some.at c.self.invariant.1 c.self.view_is (sym c.position_of_end.ensures ∙ c.in-Some.is) c.put-size.ensures.size c.put-size.ensures.front
 
 pub returns-in-None : goal.returns-in-None
 returns-in-None c =

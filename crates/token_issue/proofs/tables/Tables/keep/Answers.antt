@@ -1,4 +1,3 @@
-use Rattle.std.proofs.Common.{inr}
 use Rattle.token_issue.proofs.KeptLemmas.{keys_put, tables_put}
 use Rattle.token_issue.proofs.tables.Tables.keep.Goals as goal
 
@@ -7,7 +6,7 @@ invariant_of-self g c =
     rw c.in-Ok.ensures.entries
     (c.self.invariant.0, tables_put g.M.Mixer.next c.args.table c.self.inside.cache c.args.tokens c.self.invariant.1 c.requires.tokens)
 
-pub returns-in-Ok : goal.returns-in-Ok
-returns-in-Ok g c =
+pub returns-in-Ok-clause-kept : goal.returns-in-Ok-clause-kept
+returns-in-Ok-clause-kept g c =
     let new = rw (← c.self.view_is) at c.requires.new in
-    inr (rw (c.in-Ok.ensures.entries, ← c.self.view_is) (keys_put c.args.table c.self.inside.cache c.args.tokens c.self.invariant.0 new))
+    rw (c.in-Ok.ensures.entries, ← c.self.view_is) (keys_put c.args.table c.self.inside.cache c.args.tokens c.self.invariant.0 new)

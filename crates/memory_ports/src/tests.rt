@@ -1,0 +1,3 @@
+// The objects in memory.
+mod flashes;
+mod streams;

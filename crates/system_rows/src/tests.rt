@@ -1,0 +1,4 @@
+// The adapters over a runtime that plays the system's faults.
+mod disk;
+mod files;
+mod standard;
