@@ -1,4 +1,4 @@
-// Worked runs of the shop over a real database, in memory and in a file.
+// What the keeper keeps in a real database, in memory and in a file.
 #![tactic(auto)]
 
 #[cfg(test)]

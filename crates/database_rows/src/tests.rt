@@ -4,7 +4,6 @@ ghost use Rattle.ledger_spec.specs.Tables.{RowIsInRange, OrderIsInRange, AskIsIn
 
 mod kept;
 mod plain;
-mod shop;
 mod stored;
 
 use keeper_sqlite::SqliteKeeper;

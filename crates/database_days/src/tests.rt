@@ -1,11 +1,25 @@
-// Worked runs of the shop over a database. Its devices are enrolled with a key of 16 zeros and the starting code 123456789, and the
+// Days of a shop over a database. Its devices are enrolled with a key of 16 zeros and the starting code 123456789, and the
 // counts of their chains are 7,000 apart.
-use super::plain::change;
-use super::*;
+use keeper_sqlite::SqliteKeeper;
+use ledger_keeper::Keeper;
 use memory_ports::{MemFlash, MemSink, MemSource};
 use paygo_cli::{Status, run};
 use paygo_spec::Memory;
+use sqlite::Connection;
+use std::alloc::Global;
+use std::process::Abort;
 use token_chain::Stride;
+
+fn text(rt: &impl Abort, alloc: Global, text: &str) -> String {
+    String::from_str(alloc, text).expect(rt, "memory")
+}
+
+// Runs these statements over a file.
+fn change(rt: &impl Abort, host: &HostRuntime, path: &str, statements: &str) {
+    let mut conn = Connection::open(host, path).expect(rt, "the file");
+    assert!(rt; conn.execute_batch(statements).is_ok());
+    assert!(rt; conn.close().is_ok());
+}
 
 /// A device is enrolled; a week is paid, paid again, and paid otherwise under the same id; and what is kept is asked for.
 const SALE: &str =
