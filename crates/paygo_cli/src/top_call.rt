@@ -5,6 +5,7 @@ ghost use Rattle.run_spec.specs.declared.Mode.{Mode as Taken};
 ghost use Rattle.loan_ledger.specs.Audit.{audited};
 ghost use Rattle.loan_ledger.specs.AuditText.{text_of_findings};
 ghost use Rattle.line_loop.specs.Runs.{outside, Causes, IsCalm, IsLong, Reads, RunsTold, RunsUnseen};
+ghost use Rattle.deal_runs.specs.Programs.{RunsOn};
 ghost use Rattle.paygo_cli.specs.Forms.{work_of};
 ghost use Rattle.paygo_cli.specs.Ends.{WritesText, WritesFleet};
 
@@ -47,6 +48,8 @@ use token_chain::Mixer;
 /// each event, and from sound tables the shop's and the customer's promises are kept (`run`). Over a flash that tells no words, as
 /// a file tells none, each answer of the device is that of its machine by what it has in memory, a history that a device can have,
 /// so that between two power-ups each count is accepted once at most; and what rests on the tables alone is kept as well (`unseen`).
+/// Where keeper and flash tell what they hold, the run goes on with the deal of shop and customer, whatever life led to what it
+/// found: with its turns, by these lines and answers, all so far is a deal, which keeps the six promises (`deal`).
 /// Where a line failed, less than a block of 8,192 bytes was handed out behind it. An audit changes nothing, and writes what there
 /// is to find in tables that are told (`audited`). A fleet's totals are those of shop and devices on the days that the seed draws,
 /// each planned power cut in the event in which it falls; where none is planned they are a function of the words (`simulated`). It
@@ -91,6 +94,10 @@ pub fn run<M: Mixer, S: Source, K: Sink, D: Keeper, F: Flash>(
         (outside (S.view source.new) (K.view sink.new) (D.view keeper.new) (F.view flash.new)) }
     ensures unseen { (mode : Taken) → work_of (map (λ word. word.now) words.now) ≡ Some (Work.Lines mode) →
         RunsUnseen M.next mode result
+        (outside (S.view source.old) (K.view sink.old) (D.view keeper.old) (F.view flash.old))
+        (outside (S.view source.new) (K.view sink.new) (D.view keeper.new) (F.view flash.new)) }
+    ensures deal { (mode : Taken) → work_of (map (λ word. word.now) words.now) ≡ Some (Work.Lines mode) →
+        RunsOn M.next mode result
         (outside (S.view source.old) (K.view sink.old) (D.view keeper.old) (F.view flash.old))
         (outside (S.view source.new) (K.view sink.new) (D.view keeper.new) (F.view flash.new)) }
     ensures audited { work_of (map (λ word. word.now) words.now) ≡ Some Work.Audit →

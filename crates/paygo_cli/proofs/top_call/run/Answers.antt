@@ -1,6 +1,7 @@
 use Rattle.std.proofs.Common.{◌∙◌, subst}
 use Rattle.run_spec.specs.declared.Mode.{Mode}
 use Rattle.line_loop.specs.Runs.{outside, RunsTold, RunsUnseen}
+use Rattle.deal_runs.proofs.Chaining.{runs_on}
 use Rattle.paygo_cli.proofs.Ending.{complete, same_mode}
 use Rattle.paygo_cli.proofs.top_call.run.Goals as goal
 
@@ -15,6 +16,13 @@ returns-in-Some-Lines-clause-unseen g c = λ mode is.
     let old = outside (g.S.Source.view c.args.source.now) (g.K.Sink.view c.args.sink.now) (g.D.Keeper.view c.args.keeper.now) (g.F.Flash.view c.args.flash.now) in
     let new = outside (g.S.Source.view c.run_lines.new.source) (g.K.Sink.view c.run_lines.new.sink) (g.D.Keeper.view c.run_lines.new.keeper) (g.F.Flash.view c.run_lines.new.flash) in
     subst (λ (m : Mode). RunsUnseen g.M.Mixer.next m c.run_lines.result old new) (same_mode c.in-Some-Lines.field-0 c.in-Some-Lines.mode mode c.in-Some-Lines.field-0-is (c.in-Some-Lines.ensures.work ∙ is)) c.run_lines.ensures.unseen
+
+pub returns-in-Some-Lines-clause-deal : goal.returns-in-Some-Lines-clause-deal
+returns-in-Some-Lines-clause-deal g c = λ mode is.
+    let old = outside (g.S.Source.view c.args.source.now) (g.K.Sink.view c.args.sink.now) (g.D.Keeper.view c.args.keeper.now) (g.F.Flash.view c.args.flash.now) in
+    let new = outside (g.S.Source.view c.run_lines.new.source) (g.K.Sink.view c.run_lines.new.sink) (g.D.Keeper.view c.run_lines.new.keeper) (g.F.Flash.view c.run_lines.new.flash) in
+    let told = subst (λ (m : Mode). RunsTold g.M.Mixer.next m c.run_lines.result old new) (same_mode c.in-Some-Lines.field-0 c.in-Some-Lines.mode mode c.in-Some-Lines.field-0-is (c.in-Some-Lines.ensures.work ∙ is)) c.run_lines.ensures.run in
+    runs_on g.M.Mixer.next mode c.run_lines.result old new told
 
 pub returns-in-Some-Audit-clause-complete : goal.returns-in-Some-Audit-clause-complete
 returns-in-Some-Audit-clause-complete g c =

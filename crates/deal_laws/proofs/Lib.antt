@@ -1,0 +1,12 @@
+pub mod Keeping
+pub mod Books
+pub mod Chains
+pub mod Standing
+pub mod Sales
+pub mod Replying
+pub mod Moving
+pub mod Seeing
+pub mod Answering
+pub mod Lives
+pub mod Untaken
+pub mod Parting

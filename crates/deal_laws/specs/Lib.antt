@@ -1,0 +1,4 @@
+pub mod Meaning
+pub mod Lives
+pub mod Runs
+pub mod Parted

@@ -1,0 +1,4 @@
+pub mod Chaining
+pub mod Mixing
+pub mod Stepping
+pub mod Parting
