@@ -6,8 +6,12 @@ use Rattle.std.specs.Str.{bytes_eq}
 abbrev pub paths_with : List ℕ → List ℕ → List ℕ × List ℕ
 paths_with word file = if bytes_eq word (codes "device") then ([], file) else (file, [])
 
--- The same by all words: `bench DB FLASH` names both. What the words don't name has an empty path.
+-- The same by the first word and two that follow: `ring FLASH BANKS`, or another word, a database and a flash.
+abbrev pub paths_before : List ℕ → List ℕ → List ℕ → List ℕ × List ℕ
+paths_before word first second = if bytes_eq word (codes "ring") then ([], first) else (first, second)
+
+-- The same by all words. What the words don't name has an empty path.
 abbrev pub paths_of : List (List ℕ) → List ℕ × List ℕ
 paths_of (word ∷ file ∷ []) = paths_with word file
-paths_of (word ∷ tables ∷ flash ∷ []) = (tables, flash)
+paths_of (word ∷ first ∷ second ∷ []) = paths_before word first second
 paths_of _ = ([], [])

@@ -1,4 +1,5 @@
-// The program `paygo`: its words are run over standard input, standard output, a database of the shop and a file as the flash.
+// The program `paygo`: its words are run over standard input, standard output, a database of the shop and a file as the
+// flash, of two banks or of more.
 #![tactic(auto)]
 
 ghost use Rattle.std.specs.Prelude.{◌≡◌, map, drop, IfOk, IfErr, OnOk};
@@ -7,17 +8,19 @@ ghost use Rattle.std.specs.IoError.{error_kind};
 ghost use Rattle.std.specs.Io.KnownBytes.{Appends};
 ghost use Rattle.std.specs.Process.{exit_status};
 ghost use Rattle.paygo.specs.Exit.{exit_of, line_for, ended_by};
-ghost use Rattle.paygo.specs.Paths.{paths_with, paths_of};
+ghost use Rattle.paygo.specs.Paths.{paths_with, paths_before, paths_of};
 
+use bank_ring::Ring;
 use keeper_sqlite::SqliteKeeper;
-use paygo_cli::{Status, message, run};
+use paygo_cli::{Status, banks_in, message, run};
+use paygo_ports::Flash;
 use sip_lanes::Lanes;
 use std::alloc::{AllocError, Global};
 use std::fs::File;
 use std::io::{ErrorKind, Write};
 use std::process::ExitCode;
 use std::{env, fs, io};
-use system_ports::{FlashFile, StdinSource, StdoutSink};
+use system_ports::{FlashFile, MediaFile, StdinSource, StdoutSink};
 
 fn main(rt: HostRuntime) -> ExitCode {
     let _input = reserve(&rt);
@@ -28,9 +31,9 @@ fn main(rt: HostRuntime) -> ExitCode {
     exit(status)
 }
 
-// What takes the lowest free descriptor. Three of them, kept open, see to it that no file of the run gets the descriptor of a
-// standard stream that the program was started without, and no answer is written into the flash. A folder is neither read nor
-// written as a file is, so such a stream fails.
+// What takes the lowest free descriptor. Three of them, kept open, see to it that no file of the run gets the
+// descriptor of a standard stream that the program was started without, and no answer is written into the flash. A
+// folder is neither read nor written as a file is, so such a stream fails.
 fn reserve(rt: &HostRuntime) -> Option<File> {
     fs::open(rt, "/").ok()
 }
@@ -105,15 +108,26 @@ fn words_of<'a>(alloc: Global, args: &'a [String]) -> Result<Vec<&'a str>, Alloc
     Ok(words)
 }
 
-// The paths of the database and of the flash file that the words name: `device FLASH` names a flash, `bench DB FLASH` both, and
-// every other form of two words a database. What they don't name has an empty path, and is never called.
+// The paths of the database and of the flash file that the words name: `device FLASH` and `ring FLASH BANKS` name a
+// flash, `bench DB FLASH` both, and every other form of two words a database. What they don't name has an empty path,
+// and is never called.
 fn paths<'a>(words: &[&'a str]) -> (&'a str, &'a str)
     ensures { (result.0.now, result.1.now) ≡ paths_of (map (λ word. word.now) words.now) }
 {
     match words {
         [word, file] => path_with(word, file),
-        [_, tables, flash] => (tables, flash),
+        [word, first, second] => paths_before(word, first, second),
         _ => ("", ""),
+    }
+}
+
+// `ring FLASH BANKS`, or another word, a database and a flash.
+fn paths_before<'a>(word: &str, first: &'a str, second: &'a str) -> (&'a str, &'a str)
+    ensures { (result.0.now, result.1.now) ≡ paths_before word.now first.now second.now }
+{
+    match word {
+        "ring" => ("", first),
+        _ => (first, second),
     }
 }
 
@@ -127,21 +141,34 @@ fn path_with<'a>(word: &str, file: &'a str) -> (&'a str, &'a str)
     }
 }
 
-// Runs these words. What is wrong with tables that were refused is told on standard error. At the end the database is closed, so
-// that its file stands alone.
+// Runs these words over the flash that they name: a file of so many banks where they are `ring FLASH BANKS`, else one
+// of two.
 fn run_words(rt: &HostRuntime, words: &[&str]) -> io::Result<Status> {
     let (tables, flash) = paths(words);
+    let flash = String::from_str(rt.alloc(), flash)?;
+    match banks_in(words) {
+        Some(banks) => run_over(
+            rt,
+            words,
+            tables,
+            Ring::over(MediaFile::at(rt, flash, banks)),
+        ),
+        None => run_over(rt, words, tables, FlashFile::at(rt, flash)),
+    }
+}
+
+// Runs these words over this flash. What is wrong with tables that were refused is told on standard error. At the end
+// the database is closed, so that its file stands alone.
+fn run_over<F: Flash + Drop>(
+    rt: &HostRuntime,
+    words: &[&str],
+    tables: &str,
+    mut flash: F,
+) -> io::Result<Status> {
     let mut source = StdinSource::new(rt);
     let mut sink = StdoutSink::new(rt);
     let mut keeper = SqliteKeeper::at(rt, String::from_str(rt.alloc(), tables)?);
-    let mut flash = FlashFile::at(rt, String::from_str(rt.alloc(), flash)?);
-    let status = run::<
-        Lanes,
-        StdinSource<HostRuntime>,
-        StdoutSink<HostRuntime>,
-        SqliteKeeper,
-        FlashFile<HostRuntime>,
-    >(
+    let status = run::<Lanes, StdinSource<HostRuntime>, StdoutSink<HostRuntime>, SqliteKeeper, F>(
         rt.alloc(),
         words,
         &mut source,

@@ -17,18 +17,31 @@ work_with_file word file =
     else if bytes_eq word (codes "audit") then Some work.Audit
     else None
 
--- `bench DB FLASH`
-abbrev pub work_with_files : List ℕ → List ℕ → List ℕ → Option Work
-work_with_files word tables flash =
-    if length tables == 0 then None
-    else if length flash == 0 then None
-    else if bytes_eq word (codes "bench") then Some (work.Lines mode.Both)
-    else None
-
 -- The number that a word of 1 to 20 decimal digits says, where it lies between these two.
 abbrev pub number_between : ℕ → ℕ → List ℕ → Option ℕ
 number_between least most word =
     option_and_then (λ n. if nat_le least n && nat_le n most then Some n else None) (decimal_in 20 word)
+
+-- How many banks the words `ring FLASH BANKS` name, from 2 to 16; other words name none.
+abbrev pub banks_with : List ℕ → List ℕ → Option ℕ
+banks_with word banks = if bytes_eq word (codes "ring") then number_between 2 16 banks else None
+
+abbrev pub banks_of : List (List ℕ) → Option ℕ
+banks_of (word ∷ flash ∷ banks ∷ []) = banks_with word banks
+banks_of _ = None
+
+-- A device over a ring of so many banks does what one over a flash of two does.
+abbrev pub work_with_banks : Option ℕ → Option Work
+work_with_banks None = None
+work_with_banks (Some banks) = Some (work.Lines mode.Device)
+
+-- `bench DB FLASH` or `ring FLASH BANKS`
+abbrev pub work_with_files : List ℕ → List ℕ → List ℕ → Option Work
+work_with_files word first second =
+    if length first == 0 then None
+    else if length second == 0 then None
+    else if bytes_eq word (codes "bench") then Some (work.Lines mode.Both)
+    else work_with_banks (banks_with word second)
 
 -- A fleet of these numbers: any seed of 64 bits, 1 to 200 devices and 1 to 400 days.
 abbrev pub fleet_of : Option ℕ → Option ℕ → Option ℕ → Option Work
@@ -62,7 +75,7 @@ WorkIsInRange _ = Unit {0}
 abbrev pub message_of : Status → Option (List ℕ)
 message_of status.Ok = None
 message_of status.Usage =
-    Some (codes "usage: paygo serve DB | device FLASH | bench DB FLASH | audit DB | fleet SEED DEVICES DAYS")
+    Some (codes "usage: paygo serve DB | device FLASH | bench DB FLASH | audit DB | fleet SEED DEVICES DAYS | ring FLASH BANKS")
 message_of status.Read = Some (codes "paygo: read fault")
 message_of status.Write = Some (codes "paygo: write fault")
 message_of status.Keep = Some (codes "paygo: keeper fault")

@@ -10,4 +10,4 @@ mod writing;
 
 pub use run_spec::Status;
 pub use top_call::run;
-pub use words::{Work, message, work_in};
+pub use words::{Work, banks_in, message, work_in};

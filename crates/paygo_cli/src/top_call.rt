@@ -21,7 +21,8 @@ use token_chain::Mixer;
 
 /// Runs the program by its words: `serve DB` takes the lines of the source to the ledger over the keeper, `device FLASH` to
 /// a device over the flash, and `bench DB FLASH` to both, and each writes the answers to the sink, each before the next
-/// event happens or the next line is taken. The device is off at first. `audit DB` checks each token that the keeper's tables
+/// event happens or the next line is taken. The device is off at first. `ring FLASH BANKS` does what `device FLASH` does, and all
+/// that is said of `device` holds of it; its caller hands in a ring of so many banks (`banks_in`) as the flash. `audit DB` checks each token that the keeper's tables
 /// hold, and writes the ids of the wrong ones and how many there are. `fleet SEED DEVICES DAYS` draws a fleet from the seed, runs
 /// it in memory, and writes its totals.
 ///

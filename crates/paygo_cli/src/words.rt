@@ -1,14 +1,15 @@
 // The words of the command line, and what is said of a status.
 ghost use Rattle.std.specs.Prelude.{◌≡◌, ◌<◌, ◌≤◌, ◌^◌, IfSome, length, map, option_copied};
 ghost use Rattle.paygo_spec.specs.Words.{is_decimal, digits_from, decimal_in};
-ghost use Rattle.paygo_cli.specs.Forms.{work_with_file, work_with_files, work_with_numbers, number_between, work_of, WorkIsInRange, message_of};
+ghost use Rattle.paygo_cli.specs.Forms.{banks_of, banks_with, work_with_banks, work_with_file, work_with_files, work_with_numbers, number_between, work_of, WorkIsInRange, message_of};
 
 use run_spec::{Mode, Status};
 
 /// What the words of the command line ask for.
 #[derive(Clone, Copy, Debug, PartialEq, Eq)]
 pub enum Work {
-    /// Lines are taken: `serve DB`, `device FLASH` or `bench DB FLASH`.
+    /// Lines are taken: `serve DB`, `device FLASH` or `bench DB FLASH`; and `ring FLASH BANKS`, which takes those of a
+    /// device.
     Lines(Mode),
     /// Each token that the shop keeps is checked again: `audit DB`.
     Audit,
@@ -23,7 +24,7 @@ pub fn work_in(words: &[&str]) -> Option<Work>
 {
     match words {
         [word, file] => with_file(word, file),
-        [word, tables, flash] => with_files(word, tables, flash),
+        [word, first, second] => with_files(word, first, second),
         [word, seed, devices, days] => with_numbers(word, seed, devices, days),
         _ => None,
     }
@@ -45,18 +46,45 @@ fn with_file(word: &str, file: &str) -> Option<Work>
     }
 }
 
-// `bench DB FLASH`
-fn with_files(word: &str, tables: &str, flash: &str) -> Option<Work>
-    ensures work { result ≡ work_with_files word.now tables.now flash.now }
+// `bench DB FLASH` or `ring FLASH BANKS`
+fn with_files(word: &str, first: &str, second: &str) -> Option<Work>
+    ensures work { result ≡ work_with_files word.now first.now second.now }
     ensures range { IfSome result WorkIsInRange }
 {
-    if tables.is_empty() || flash.is_empty() {
+    if first.is_empty() || second.is_empty() {
         return None;
     }
     match word {
         "bench" => Some(Work::Lines(Mode::Both)),
+        _ => match with_banks(word, second) {
+            Some(_) => Some(Work::Lines(Mode::Device)),
+            None => None,
+        },
+    }
+}
+
+/// How many banks the words `ring FLASH BANKS` name, from 2 to 16, for the flash that `run` is handed; None for other
+/// words.
+pub fn banks_in(words: &[&str]) -> Option<u16>
+    ensures value { result ≡ banks_of (map (λ word. word.now) words.now) }
+    ensures range { IfSome result (λ banks. (2 ≤ banks) × (banks ≤ 16)) }
+{
+    match words {
+        [word, _, banks] => with_banks(word, banks),
         _ => None,
     }
+}
+
+// The number of banks behind `ring`.
+fn with_banks(word: &str, banks: &str) -> Option<u16>
+    ensures value { result ≡ banks_with word.now banks.now }
+    ensures range { IfSome result (λ banks. (2 ≤ banks) × (banks ≤ 16)) }
+{
+    if word != "ring" {
+        return None;
+    }
+    let banks = number(banks, 2, 16)?;
+    Some(banks as u16)
 }
 
 // `fleet SEED DEVICES DAYS`
@@ -121,7 +149,7 @@ pub fn message(status: Status) -> Option<&'static str>
     match status {
         Status::Ok => None,
         Status::Usage => Some(
-            "usage: paygo serve DB | device FLASH | bench DB FLASH | audit DB | fleet SEED DEVICES DAYS",
+            "usage: paygo serve DB | device FLASH | bench DB FLASH | audit DB | fleet SEED DEVICES DAYS | ring FLASH BANKS",
         ),
         Status::Read => Some("paygo: read fault"),
         Status::Write => Some("paygo: write fault"),

@@ -20,7 +20,7 @@ pub(crate) fn word_start(at: u16) -> u64
 }
 
 // The byte of the file at which this bank starts.
-pub(crate) fn bank_start(bank: u8) -> u64
+pub(crate) fn bank_start(bank: u16) -> u64
     ensures { result ≡ 4096 * bank }
 {
     4096 * u64::from(bank)

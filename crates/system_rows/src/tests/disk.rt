@@ -26,7 +26,7 @@ const SHED: Names = Names {
 };
 
 // How many bytes a file has at most.
-const ROOM: usize = 8200;
+const ROOM: usize = 12_300;
 
 // How many calls are noted.
 const NOTED: usize = 40;
@@ -36,7 +36,7 @@ const NOTED: usize = 40;
 pub(super) struct Image {
     bytes: [u8; ROOM],
     len: usize,
-    ghost within: { len ≤ 8200 },
+    ghost within: { len ≤ 12300 },
 }
 
 impl Image {

@@ -1,6 +1,6 @@
 use Rattle.std.proofs.Common.{codes, refl}
 use Rattle.system_ports.proofs.PathLemmas.{text_behind}
-use Rattle.system_ports.proofs.flash_file.new_path.Goals as goal
+use Rattle.system_ports.proofs.bank_file.new_path.Goals as goal
 
 pub returns-in-Err-clause-fits : goal.returns-in-Err-clause-fits
 unfolding lib.Utf8.encode

@@ -1,6 +1,6 @@
 use Rattle.std.proofs.Common.{arith}
 use Rattle.system_ports.proofs.PathLemmas.{inner_folder, root_folder, no_folder}
-use Rattle.system_ports.proofs.flash_file.folder.Goals as goal
+use Rattle.system_ports.proofs.bank_file.folder.Goals as goal
 
 pub returns-in-Some : goal.returns-in-Some
 returns-in-Some c = inner_folder _ _ _ c.in-Some.ensures.cases (grind arith)

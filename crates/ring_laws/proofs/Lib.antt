@@ -1,0 +1,4 @@
+pub mod Keeps
+pub mod Turning
+pub mod Wear
+pub mod Journals
