@@ -70,13 +70,18 @@ fn rail(number: u32) -> u64 {
     u64::from(number) << 32 | u64::from(!number)
 }
 
+/// Programs the header of a bank, where there is that bank and its header is erased.
+fn program_header(media: &mut MemMedia, bank: u16, word: u64) {
+    if bank < media.banks() && media.read(bank, 0) == Ok(u64::MAX) {
+        let _programmed = media.program(bank, 0, word);
+    }
+}
+
 /// What `power` is answered, and which banks are shown, where these headers stand in a ring of four banks.
 fn found(alloc: Global, headers: [(u16, u64); 2]) -> Result<(String, Option<Pair>), Memory> {
     let mut media = MemMedia::erased(alloc, 4)?;
     for (bank, word) in headers {
-        if media.read(bank, 0) == Ok(u64::MAX) {
-            let _programmed = media.program(bank, 0, word);
-        }
+        program_header(&mut media, bank, word);
     }
     let mut ring = Ring::over(media);
     let text = said(alloc, &mut ring, "power\n")?;
