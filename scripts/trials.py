@@ -37,10 +37,20 @@ def untried(why):
     sys.exit(UNTRIED)
 
 
+def banks():
+    """How many banks the flash has: those of the first word behind the trial's name, as `4`, or the two of `device`."""
+    return int(sys.argv[1]) if len(sys.argv) > 1 else 2
+
+
+def words(flash):
+    """The words of a run of a device on this flash: `ring FLASH BANKS` where the trial was called with a number of banks."""
+    return ["ring", flash, str(banks())] if len(sys.argv) > 1 else ["device", flash]
+
+
 def answers(program, flash, lines):
     """The answers of one run over these lines, and its exit status. A run has 60 seconds."""
     text = "".join(line + "\n" for line in lines)
-    run = subprocess.run([program, "device", flash], input=text, capture_output=True, text=True, timeout=60)
+    run = subprocess.run([program] + words(flash), input=text, capture_output=True, text=True, timeout=60)
     return run.stdout.splitlines(), run.returncode
 
 
