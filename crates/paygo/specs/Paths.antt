@@ -10,8 +10,13 @@ paths_with word file = if bytes_eq word (codes "device") then ([], file) else (f
 abbrev pub paths_before : List ℕ → List ℕ → List ℕ → List ℕ × List ℕ
 paths_before word first second = if bytes_eq word (codes "ring") then ([], first) else (first, second)
 
+-- The same by the first word and the first of three that follow: `advise DB SERIAL FLOOR`, or words that name no file.
+abbrev pub path_of_tables : List ℕ → List ℕ → List ℕ × List ℕ
+path_of_tables word first = if bytes_eq word (codes "advise") then (first, []) else ([], [])
+
 -- The same by all words. What the words don't name has an empty path.
 abbrev pub paths_of : List (List ℕ) → List ℕ × List ℕ
 paths_of (word ∷ file ∷ []) = paths_with word file
 paths_of (word ∷ first ∷ second ∷ []) = paths_before word first second
+paths_of (word ∷ first ∷ second ∷ third ∷ []) = path_of_tables word first
 paths_of _ = ([], [])

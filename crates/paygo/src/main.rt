@@ -8,7 +8,7 @@ ghost use Rattle.std.specs.IoError.{error_kind};
 ghost use Rattle.std.specs.Io.KnownBytes.{Appends};
 ghost use Rattle.std.specs.Process.{exit_status};
 ghost use Rattle.paygo.specs.Exit.{exit_of, line_for, ended_by};
-ghost use Rattle.paygo.specs.Paths.{paths_with, paths_before, paths_of};
+ghost use Rattle.paygo.specs.Paths.{path_of_tables, paths_with, paths_before, paths_of};
 
 use bank_ring::Ring;
 use keeper_sqlite::SqliteKeeper;
@@ -109,14 +109,25 @@ fn words_of<'a>(alloc: Global, args: &'a [String]) -> Result<Vec<&'a str>, Alloc
 }
 
 // The paths of the database and of the flash file that the words name: `device FLASH` and `ring FLASH BANKS` name a
-// flash, `bench DB FLASH` both, and every other form of two words a database. What they don't name has an empty path,
-// and is never called.
+// flash, `bench DB FLASH` both, and every other form of two words a database, as `advise DB SERIAL FLOOR` does. What
+// they don't name has an empty path, and is never called.
 fn paths<'a>(words: &[&'a str]) -> (&'a str, &'a str)
     ensures { (result.0.now, result.1.now) ≡ paths_of (map (λ word. word.now) words.now) }
 {
     match words {
         [word, file] => path_with(word, file),
         [word, first, second] => paths_before(word, first, second),
+        [word, first, _, _] => path_of_tables(word, first),
+        _ => ("", ""),
+    }
+}
+
+// `advise DB SERIAL FLOOR`, or words that name no file.
+fn path_of_tables<'a>(word: &str, first: &'a str) -> (&'a str, &'a str)
+    ensures { (result.0.now, result.1.now) ≡ path_of_tables word.now first.now }
+{
+    match word {
+        "advise" => (first, ""),
         _ => ("", ""),
     }
 }

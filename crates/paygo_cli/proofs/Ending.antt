@@ -1,10 +1,13 @@
 -- How a run ends.
-use Rattle.std.proofs.Common.{◌≡◌, ◌≢◌, ◌⊎◌, inl, inr, ℕ, Some, refl, arith}
+use Rattle.std.proofs.Common.{◌≡◌, ◌≢◌, ◌⊎◌, inl, inr, ℕ, Some, refl, sym, subst, arith}
 use Rattle.run_spec.specs.declared.Mode.{Mode}
 use Rattle.run_spec.specs.declared.Status.{Status}
 use Rattle.run_spec.specs.declared.Status.TheVariants as status
 use Rattle.paygo_spec.specs.Faults.{Rose}
-use Rattle.line_loop.specs.Runs.{Outside, Causes, IsCalm}
+use Rattle.paygo_spec.specs.Flash.{FlashView}
+use Rattle.paygo_spec.specs.Streams.{SourceView, SinkView}
+use Rattle.ledger_spec.specs.Keeper.{KeeperView}
+use Rattle.line_loop.specs.Runs.{Outside, outside, Causes, FaultIf, is_keep, IsCalm}
 use Rattle.paygo_cli.specs.declared.words.Work.{Work}
 use Rattle.paygo_cli.specs.declared.words.Work.TheVariants as work
 
@@ -26,3 +29,10 @@ complete status.Long old new causes used source sink keeper = inr (inl refl)
 -- words that ask for lines ask for those of one mode
 pub same_mode : (asked : Work) (a b : Mode) → asked ≡ work.Lines a → Some asked ≡ Some (work.Lines b) → a ≡ b
 same_mode asked a b is same = cc
+
+-- a keeper whose count stayed is to blame for nothing more
+pub with_keeper : (result : Status) (source : SourceView) (sink sink' : SinkView) (old new : KeeperView) (flash : FlashView) → new.faults ≡ old.faults
+    → Causes (Some result) (outside source sink old flash) (outside source sink' old flash) → Causes (Some result) (outside source sink old flash) (outside source sink' new flash)
+with_keeper result source sink sink' old new flash same causes =
+    let kept = causes.keeper in
+    record { source = causes.source; sink = causes.sink; keeper = subst (λ (n : ℕ). FaultIf (is_keep (Some result)) old.faults n) (sym same) kept; flash = causes.flash }

@@ -1,3 +1,4 @@
 pub mod Pieces
 pub mod Ending
 pub mod Fleets
+pub mod Advices

@@ -20,20 +20,20 @@ pub cut_short : (a b : List ℕ) (fault : WriteFault) (old new : SinkView) → W
 cut_short a b fault old new (n, less, written) =
     (n, omega (arith, less, length-append a b), written ∙ ap (λ l. old.written ++ l) (sym (take-append-le n a b (omega (arith, less)))))
 
--- the texts of some names: those of the first ones, that of the one behind them, and those of the others
-split_at : (f : List ℕ → List ℕ) (xs : List (List ℕ)) (i : ℕ) (x : List ℕ) → i < length xs → x ≡ slice_index_or xs i x → flat_map f xs ≡ flat_map f (take i xs) ++ (f x ++ flat_map f (drop (suc i) xs))
+-- the texts of some things: those of the first ones, that of the one behind them, and those of the others
+split_at : {A : Type 0} (f : A → List ℕ) (xs : List A) (i : ℕ) (x : A) → i < length xs → x ≡ slice_index_or xs i x → flat_map f xs ≡ flat_map f (take i xs) ++ (f x ++ flat_map f (drop (suc i) xs))
 split_at f [] i x less is = absurd (omega (arith, less))
 split_at f (y ∷ ys) zero x less is = ap (λ z. f z ++ flat_map f ys) (sym is)
 split_at f (y ∷ ys) (suc i) x less is =
     ap (λ l. f y ++ l) (split_at f ys i x (omega (arith, less)) is) ∙ sym (append_assoc (f y) (flat_map f (take i ys)) (f x ++ flat_map f (drop (suc i) ys)))
 
--- a line for each of some ids, the last of which was cut
-pub cut_at : (ids : List (List ℕ)) (i : ℕ) (id : List ℕ) → i < length ids → id ≡ slice_index_or ids i id → (fault : WriteFault) (old mid new : SinkView)
-    → mid.written ≡ old.written ++ flat_map wrong_line (take i ids) → Wrote (wrong_line id) (Err fault) mid new → Wrote (flat_map wrong_line ids) (Err fault) old new
-cut_at ids i id less is fault old mid new before cut =
-    let rest = flat_map wrong_line (drop (suc i) ids) in
-    subst (λ (l : List ℕ). Wrote l (Err fault) old new) (sym (split_at wrong_line ids i id less is))
-    (behind (flat_map wrong_line (take i ids)) (wrong_line id ++ rest) (Err fault) old mid new before (cut_short (wrong_line id) rest fault mid new cut))
+-- a line for each of some things, one of which was cut
+pub cut_at : {A : Type 0} (f : A → List ℕ) (xs : List A) (i : ℕ) (x : A) → i < length xs → x ≡ slice_index_or xs i x → (fault : WriteFault) (old mid new : SinkView)
+    → mid.written ≡ old.written ++ flat_map f (take i xs) → Wrote (f x) (Err fault) mid new → Wrote (flat_map f xs) (Err fault) old new
+cut_at f xs i x less is fault old mid new before cut =
+    let rest = flat_map f (drop (suc i) xs) in
+    subst (λ (l : List ℕ). Wrote l (Err fault) old new) (sym (split_at f xs i x less is))
+    (behind (flat_map f (take i xs)) (f x ++ rest) (Err fault) old mid new before (cut_short (f x) rest fault mid new cut))
 
 -- the text of what an audit found
 pub text_is : (found : Findings) → flat_map wrong_line found.wrong ++ numbers_line found.rows found.orders (length found.wrong) ≡ text_of_findings found

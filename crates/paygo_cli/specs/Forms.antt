@@ -1,7 +1,8 @@
 -- The forms of words on the command line, and what is said of a status.
-use Rattle.std.specs.Prelude.{◌==◌, ◌&&◌, ◌-◌, ◌^◌, ◌≤◌, nat_le, length, List, [], ◌∷◌, ℕ, codes, Option, Some, None, option_and_then, if◌then◌else◌}
+use Rattle.std.specs.Prelude.{◌==◌, ◌&&◌, ◌-◌, ◌^◌, ◌≤◌, nat_le, nat_lt, length, List, [], ◌∷◌, ℕ, codes, Option, Some, None, option_and_then, if◌then◌else◌}
 use Rattle.std.specs.Str.{bytes_eq}
 use Rattle.paygo_spec.specs.Words.{decimal_in}
+use Rattle.ledger_spec.specs.Names.{name_in}
 use Rattle.run_spec.specs.declared.Mode.TheVariants as mode
 use Rattle.run_spec.specs.declared.Status.{Status}
 use Rattle.run_spec.specs.declared.Status.TheVariants as status
@@ -55,11 +56,32 @@ work_with_numbers word seed devices days =
     then fleet_of (number_between 0 (2 ^ 64 - 1) seed) (number_between 1 200 devices) (number_between 1 400 days)
     else None
 
+-- The least that a device's last count may be: a word of 1 to 5 decimal digits whose number is at most 16,383.
+abbrev pub floor_in : List ℕ → Option ℕ
+floor_in word = if nat_lt 5 (length word) then None else number_between 0 16383 word
+
+-- Advice for the device of this serial from this count on.
+abbrev pub advice_of : Option (List ℕ) → Option ℕ → Option Work
+advice_of (Some serial) (Some floor) = Some (work.Advise record { serial = serial; floor = floor })
+advice_of _ _ = None
+
+-- `advise DB SERIAL FLOOR`, where the name of the file isn't empty, and the serial is a name of at most 16 bytes.
+abbrev pub work_with_serial : List ℕ → List ℕ → List ℕ → Option Work
+work_with_serial file serial floor =
+    if length file == 0 then None else advice_of (name_in 16 serial) (floor_in floor)
+
+-- `advise DB SERIAL FLOOR` or `fleet SEED DEVICES DAYS`
+abbrev pub work_with_three : List ℕ → List ℕ → List ℕ → List ℕ → Option Work
+work_with_three word first second third =
+    if bytes_eq word (codes "advise")
+    then work_with_serial first second third
+    else work_with_numbers word first second third
+
 -- Other words are of no form.
 abbrev pub work_of : List (List ℕ) → Option Work
 work_of (word ∷ file ∷ []) = work_with_file word file
 work_of (word ∷ tables ∷ flash ∷ []) = work_with_files word tables flash
-work_of (word ∷ seed ∷ devices ∷ days ∷ []) = work_with_numbers word seed devices days
+work_of (word ∷ first ∷ second ∷ third ∷ []) = work_with_three word first second third
 work_of _ = None
 
 -- The numbers of a fleet are in range.
@@ -75,7 +97,7 @@ WorkIsInRange _ = Unit {0}
 abbrev pub message_of : Status → Option (List ℕ)
 message_of status.Ok = None
 message_of status.Usage =
-    Some (codes "usage: paygo serve DB | device FLASH | bench DB FLASH | audit DB | fleet SEED DEVICES DAYS | ring FLASH BANKS")
+    Some (codes "usage: paygo serve DB | device FLASH | bench DB FLASH | audit DB | fleet SEED DEVICES DAYS | advise DB SERIAL FLOOR | ring FLASH BANKS")
 message_of status.Read = Some (codes "paygo: read fault")
 message_of status.Write = Some (codes "paygo: write fault")
 message_of status.Keep = Some (codes "paygo: keeper fault")

@@ -2,6 +2,7 @@
 // tables and the flash.
 #![tactic(auto)]
 
+mod advising;
 mod auditing;
 mod simulating;
 mod top_call;
@@ -10,4 +11,4 @@ mod writing;
 
 pub use run_spec::Status;
 pub use top_call::run;
-pub use words::{Work, banks_in, message, work_in};
+pub use words::{Behind, Work, banks_in, message, work_in};

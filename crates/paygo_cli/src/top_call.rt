@@ -1,14 +1,18 @@
 // A whole run.
 ghost use Rattle.std.specs.Prelude.{◌≡◌, ◌≢◌, ◌⊎◌, ◌↔◌, true, ℕ, map, Some, None};
-ghost use Rattle.ledger_spec.specs.Tables.{Tables};
+ghost use Rattle.ledger_spec.specs.Sorted.{orders_for};
+ghost use Rattle.ledger_spec.specs.Tables.{Tables, row_of};
 ghost use Rattle.run_spec.specs.declared.Mode.{Mode as Taken};
 ghost use Rattle.loan_ledger.specs.Audit.{audited};
 ghost use Rattle.loan_ledger.specs.AuditText.{text_of_findings};
 ghost use Rattle.line_loop.specs.Runs.{outside, Causes, IsCalm, IsLong, Reads, RunsTold, RunsUnseen};
 ghost use Rattle.deal_runs.specs.Programs.{RunsOn};
+ghost use Rattle.paygo_cli.specs.declared.words.Behind.{Behind};
 ghost use Rattle.paygo_cli.specs.Forms.{work_of};
 ghost use Rattle.paygo_cli.specs.Ends.{WritesText, WritesFleet};
+ghost use Rattle.paygo_cli.specs.Advised.{WritesAdvice};
 
+use crate::advising::run_advice;
 use crate::auditing::run_audit;
 use crate::simulating::run_simulation;
 use crate::words::{Work, work_in};
@@ -24,18 +28,19 @@ use token_chain::Mixer;
 /// event happens or the next line is taken. The device is off at first. `ring FLASH BANKS` does what `device FLASH` does, and all
 /// that is said of `device` holds of it; its caller hands in a ring of so many banks (`banks_in`) as the flash. `audit DB` checks each token that the keeper's tables
 /// hold, and writes the ids of the wrong ones and how many there are. `fleet SEED DEVICES DAYS` draws a fleet from the seed, runs
-/// it in memory, and writes its totals.
+/// it in memory, and writes its totals. `advise DB SERIAL FLOOR` writes the fewest of the serial's orders whose tokens bring a
+/// device up to date whose last count is at least the floor.
 ///
 /// - `Usage` exactly where the words are no form that the program knows. Nothing is read or written then.
-/// - `Ok` where lines are taken only where the source has told its end; every line was answered. Of an audit and a fleet the
-///   whole text was written.
+/// - `Ok` where lines are taken only where the source has told its end; every line was answered. Of an audit, a fleet and an
+///   advice the whole text was written.
 /// - `Read` where the source failed, and only where lines are taken. Every whole line was answered.
 /// - `Write` where the sink failed. The steps of the lines were answered up to one whose answer was cut, and no later one was
-///   taken; each earlier answer was written whole. The text of an audit or a fleet was cut.
+///   taken; each earlier answer was written whole. The text of an audit, a fleet or an advice was cut.
 /// - `Keep` where the keeper failed, and never for `device` and `fleet`. Every line before one that asks for a command was
-///   answered; the tables are as before that command, or have its whole change. Of an audit nothing was written.
-/// - `Memory` where there was none for a line of the ledger, for the audit or for the fleet; never for `device`. Every line before
-///   it was answered, and the tables are as before it. Of an audit and a fleet nothing was written.
+///   answered; the tables are as before that command, or have its whole change. Of an audit and an advice nothing was written.
+/// - `Memory` where there was none for a line of the ledger, for the audit, the fleet or the advice; never for `device`. Every line
+///   before it was answered, and the tables are as before it. Of an audit, a fleet and an advice nothing was written.
 /// - `Long` where lines are taken, exactly where 2^40 bytes were handed out, the source hasn't told its end, and every whole line
 ///   was answered.
 ///
@@ -53,7 +58,8 @@ use token_chain::Mixer;
 /// found: with its turns, by these lines and answers, all so far is a deal, which keeps the six promises (`deal`).
 /// Where a line failed, less than a block of 8,192 bytes was handed out behind it. An audit changes nothing, and writes what there
 /// is to find in tables that are told (`audited`). A fleet's totals are those of shop and devices on the days that the seed draws,
-/// each planned power cut in the event in which it falls; where none is planned they are a function of the words (`simulated`). It
+/// each planned power cut in the event in which it falls; where none is planned they are a function of the words (`simulated`). An
+/// advice changes nothing, and over tables that are told what is written is that of the device's orders and limit (`advised`). It
 /// takes memory but for `device`.
 pub fn run<M: Mixer, S: Source, K: Sink, D: Keeper, F: Flash>(
     alloc: Global,
@@ -76,6 +82,10 @@ pub fn run<M: Mixer, S: Source, K: Sink, D: Keeper, F: Flash>(
         work_of (map (λ word. word.now) words.now) ≡ Some (Work.Fleet seed devices days) →
         (source.new ≡ source.old) × (keeper.new ≡ keeper.old) × (flash.new ≡ flash.old) × (result ≢ Status.Read) ×
         (result ≢ Status.Keep) × (result ≢ Status.Long) }
+    ensures advise { (behind : Behind) →
+        work_of (map (λ word. word.now) words.now) ≡ Some (Work.Advise behind) →
+        (source.new ≡ source.old) × (flash.new ≡ flash.old) ×
+        ((D.view keeper.new).tables ≡ (D.view keeper.old).tables) × (result ≢ Status.Read) × (result ≢ Status.Long) }
     ensures causes { Causes (Some result)
         (outside (S.view source.old) (K.view sink.old) (D.view keeper.old) (F.view flash.old))
         (outside (S.view source.new) (K.view sink.new) (D.view keeper.new) (F.view flash.new)) }
@@ -107,6 +117,11 @@ pub fn run<M: Mixer, S: Source, K: Sink, D: Keeper, F: Flash>(
     ensures simulated { (seed devices days : ℕ) →
         work_of (map (λ word. word.now) words.now) ≡ Some (Work.Fleet seed devices days) →
         WritesFleet M.next seed devices days result (K.view sink.old) (K.view sink.new) }
+    ensures advised { (behind : Behind) →
+        work_of (map (λ word. word.now) words.now) ≡ Some (Work.Advise behind) →
+        (tables : Tables) → (D.view keeper.old).tables ≡ Some tables →
+        WritesAdvice (row_of tables behind.serial) (orders_for tables behind.serial) behind.floor result
+        (K.view sink.old) (K.view sink.new) }
 {
     match work_in(words) {
         Some(Work::Lines(mode)) => {
@@ -120,6 +135,7 @@ pub fn run<M: Mixer, S: Source, K: Sink, D: Keeper, F: Flash>(
                 days,
             },
         ) => run_simulation::<M, K>(alloc, seed, devices, days, sink),
+        Some(Work::Advise(behind)) => run_advice::<K, D>(alloc, &behind, sink, keeper),
         None => Status::Usage,
     }
 }

@@ -1,12 +1,13 @@
 // The words of the command line, and what is said of a status.
 ghost use Rattle.std.specs.Prelude.{◌≡◌, ◌<◌, ◌≤◌, ◌^◌, IfSome, length, map, option_copied};
 ghost use Rattle.paygo_spec.specs.Words.{is_decimal, digits_from, decimal_in};
-ghost use Rattle.paygo_cli.specs.Forms.{banks_of, banks_with, work_with_banks, work_with_file, work_with_files, work_with_numbers, number_between, work_of, WorkIsInRange, message_of};
+ghost use Rattle.paygo_cli.specs.Forms.{banks_of, banks_with, work_with_banks, work_with_file, work_with_files, work_with_numbers, work_with_serial, work_with_three, floor_in, number_between, work_of, WorkIsInRange, message_of};
 
+use ledger_spec::Name;
 use run_spec::{Mode, Status};
 
 /// What the words of the command line ask for.
-#[derive(Clone, Copy, Debug, PartialEq, Eq)]
+#[derive(Clone, Copy, Debug)]
 pub enum Work {
     /// Lines are taken: `serve DB`, `device FLASH` or `bench DB FLASH`; and `ring FLASH BANKS`, which takes those of a
     /// device.
@@ -15,6 +16,17 @@ pub enum Work {
     Audit,
     /// A fleet of 1 to 200 devices over 1 to 400 days is drawn from a number, and run: `fleet SEED DEVICES DAYS`.
     Fleet { seed: u64, devices: u32, days: u32 },
+    /// The way back is told for a device that fell behind: `advise DB SERIAL FLOOR`.
+    Advise(Behind),
+}
+
+/// A device that fell behind, as the words tell of it.
+#[derive(Clone, Copy, Debug)]
+pub struct Behind {
+    /// Its serial, of at most 16 bytes.
+    pub serial: Name,
+    /// What its last count is at least: from 0 to 16,383.
+    pub floor: u16,
 }
 
 /// What the words ask for; None exactly where they are of no form that the program knows.
@@ -25,7 +37,7 @@ pub fn work_in(words: &[&str]) -> Option<Work>
     match words {
         [word, file] => with_file(word, file),
         [word, first, second] => with_files(word, first, second),
-        [word, seed, devices, days] => with_numbers(word, seed, devices, days),
+        [word, first, second, third] => with_three(word, first, second, third),
         _ => None,
     }
 }
@@ -85,6 +97,41 @@ fn with_banks(word: &str, banks: &str) -> Option<u16>
     }
     let banks = number(banks, 2, 16)?;
     Some(banks as u16)
+}
+
+// `advise DB SERIAL FLOOR` or `fleet SEED DEVICES DAYS`
+fn with_three(word: &str, first: &str, second: &str, third: &str) -> Option<Work>
+    ensures work { result ≡ work_with_three word.now first.now second.now third.now }
+    ensures range { IfSome result WorkIsInRange }
+{
+    match word {
+        "advise" => with_serial(first, second, third),
+        _ => with_numbers(word, first, second, third),
+    }
+}
+
+// `advise DB SERIAL FLOOR`, by the words behind the first.
+fn with_serial(file: &str, serial: &str, floor: &str) -> Option<Work>
+    ensures work { result ≡ work_with_serial file.now serial.now floor.now }
+    ensures range { IfSome result WorkIsInRange }
+{
+    if file.is_empty() {
+        return None;
+    }
+    let serial = Name::of(serial.as_bytes(), 16)?;
+    let floor = floor_of(floor)?;
+    Some(Work::Advise(Behind { serial, floor }))
+}
+
+// The number that a word of 1 to 5 decimal digits says, where it is at most 16,383.
+fn floor_of(word: &str) -> Option<u16>
+    ensures { result ≡ floor_in word.now }
+{
+    if word.len() > 5 {
+        return None;
+    }
+    let floor = number(word, 0, 16383)?;
+    Some(floor as u16)
 }
 
 // `fleet SEED DEVICES DAYS`
@@ -149,7 +196,7 @@ pub fn message(status: Status) -> Option<&'static str>
     match status {
         Status::Ok => None,
         Status::Usage => Some(
-            "usage: paygo serve DB | device FLASH | bench DB FLASH | audit DB | fleet SEED DEVICES DAYS | ring FLASH BANKS",
+            "usage: paygo serve DB | device FLASH | bench DB FLASH | audit DB | fleet SEED DEVICES DAYS | advise DB SERIAL FLOOR | ring FLASH BANKS",
         ),
         Status::Read => Some("paygo: read fault"),
         Status::Write => Some("paygo: write fault"),

@@ -12,4 +12,4 @@ returns-in-Err-clause-wrote g c =
     let id = c.id-item.result in
     let line : c.wrong_text.result ++ 10 ∷ [] ≡ wrong_line id = ap (λ (l : List ℕ). l ++ 10 ∷ []) c.wrong_text.ensures.text in
     let wrote = subst (λ (l : List ℕ). Wrote l (Err c.in-Err.fault) mid new) line c.in-Err.ensures.wrote in
-    cut_at c.args.wrong.now c.loop-id.id-index id c.loop-id-test.true c.id-item.is c.in-Err.fault old mid new c.loop-id.invariant.written wrote
+    cut_at wrong_line c.args.wrong.now c.loop-id.id-index id c.loop-id-test.true c.id-item.is c.in-Err.fault old mid new c.loop-id.invariant.written wrote

@@ -45,3 +45,13 @@ returns-in-Some-Audit-clause-causes g c = c.run_audit.ensures.causes (g.S.Source
 pub returns-in-Some-Fleet-clause-causes : goal.returns-in-Some-Fleet-clause-causes
 returns-in-Some-Fleet-clause-causes g c =
     c.run_simulation.ensures.causes (g.S.Source.view c.args.source.now) (g.D.Keeper.view c.args.keeper.now) (g.F.Flash.view c.args.flash.now)
+
+pub returns-in-Some-Advise-clause-complete : goal.returns-in-Some-Advise-clause-complete
+returns-in-Some-Advise-clause-complete g c =
+    let source = g.S.Source.view c.args.source.now in
+    let flash = g.F.Flash.view c.args.flash.now in
+    complete c.run_advice.result (outside source (g.K.Sink.view c.args.sink.now) (g.D.Keeper.view c.args.keeper.now) flash) (outside source (g.K.Sink.view c.run_advice.new.sink) (g.D.Keeper.view c.run_advice.new.keeper) flash)
+    (c.run_advice.ensures.causes source flash)
+
+pub returns-in-Some-Advise-clause-causes : goal.returns-in-Some-Advise-clause-causes
+returns-in-Some-Advise-clause-causes g c = c.run_advice.ensures.causes (g.S.Source.view c.args.source.now) (g.F.Flash.view c.args.flash.now)

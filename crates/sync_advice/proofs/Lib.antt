@@ -1,0 +1,5 @@
+pub mod Climbing
+pub mod Finding
+pub mod Bringing
+pub mod Behind
+pub mod Sold

@@ -1,0 +1,3 @@
+pub mod Advice
+pub mod Typing
+pub mod Answers

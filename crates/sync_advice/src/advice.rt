@@ -1,0 +1,117 @@
+// The advice to a customer whose device fell behind.
+ghost use Rattle.std.specs.Prelude.{◌≡◌, ◌<◌, ◌≤◌, Err, IfOk, IfErr, OnErr, OnOk, MatchOption, IfSome, length};
+ghost use Rattle.sync_advice.specs.Advice.{order_with, last_count, reaches, step_of, IsFar, IsEnd, Climbs, Stops};
+ghost use Rattle.sync_advice.specs.Typing.{BringsUp, BringsItself, IsShortest, NoneBrings};
+ghost use Rattle.sync_advice.specs.Answers.{AnswersAs, IfList, IfGap};
+
+use ledger_spec::Order;
+use std::alloc::Global;
+
+/// What is advised.
+#[derive(Drop)]
+pub enum Advice {
+    /// The orders whose tokens are typed, in their order. The device is up to date then.
+    List(Vec<Order>),
+    /// No list of orders brings the device up to date: from this count on none is in reach.
+    Gap { count: u16 },
+}
+
+/// Why nothing is advised.
+#[derive(Clone, Copy, Debug, PartialEq, Eq)]
+pub enum AdviceFault {
+    /// The floor is above the greatest count of the orders, which is `last`.
+    Above { last: u16 },
+    /// There was no memory for the list.
+    Memory,
+}
+
+/// How far above its last count a device takes a token of this value.
+fn step_of(value: u16) -> u16
+    ensures value { result ≡ step_of value }
+    ensures most { result ≤ 100 }
+{
+    if value == 999 { 100 } else { 64 }
+}
+
+/// The first order of a count.
+fn order_with(orders: &[Order], count: u16) -> Option<Order>
+    ensures { result ≡ order_with orders.now count }
+{
+    for order in orders {
+        if order.count == count {
+            return Some(*order);
+        }
+    }
+    None
+}
+
+/// The greatest count of the orders, or 0.
+fn last_count(orders: &[Order]) -> u16
+    ensures { result ≡ last_count orders.now }
+{
+    let mut last = 0;
+    for order in orders {
+        last = order.count.max(last);
+    }
+    last
+}
+
+/// Whether a device with this last count takes the token of the order, and goes on by it.
+fn reaches(limit: u16, from: u16, order: &Order) -> bool
+    ensures { result ≡ reaches limit from order.now }
+{
+    from < order.count && order.count <= limit.min(from.saturating_add(step_of(order.value)))
+}
+
+/// The order that leads farthest from a count.
+fn far(orders: &[Order], limit: u16, from: u16) -> Option<Order>
+    ensures { MatchOption result (IsEnd orders.now limit from) (λ order. IsFar orders.now limit from order) }
+{
+    let mut count = limit.min(from.saturating_add(100));
+    while count > from {
+        if let Some(order) = order_with(orders, count)
+            && reaches(limit, from, &order)
+        {
+            return Some(order);
+        }
+        count -= 1;
+    }
+    None
+}
+
+/// The tokens by which a device comes up to date whose last count is at least `floor`.
+///
+/// # Errors
+///
+/// `Above` exactly where the floor is above the greatest count of the orders. `Memory` where there was none for the list.
+pub fn advise(
+    alloc: Global,
+    orders: &[Order],
+    limit: u16,
+    floor: u16,
+) -> Result<Advice, AdviceFault>
+    ensures answer { AnswersAs orders.now limit floor result }
+    ensures does { IfOk result (λ advice. IfList advice (λ list. BringsUp orders.now limit floor list)) }
+    ensures itself { IfOk result (λ advice. IfList advice (λ list. BringsItself orders.now limit floor list)) }
+    ensures shortest { IfOk result (λ advice. IfList advice (λ list. IsShortest orders.now limit floor list)) }
+    ensures gap { IfOk result (λ advice. IfGap advice (NoneBrings orders.now limit floor)) }
+{
+    let last = last_count(orders);
+    if floor > last {
+        return Err(AdviceFault::Above { last });
+    }
+    let mut list = Vec::new(alloc);
+    let mut at = floor;
+    while at < last {
+        let order = match far(orders, limit, at) {
+            Some(order) => order,
+            None => return Ok(Advice::Gap { count: at }),
+        };
+        let count = order.count;
+        match list.push(order) {
+            Ok(()) => at = count,
+            Err(_) => return Err(AdviceFault::Memory),
+        }
+    }
+    Ok(Advice::List(list))
+}
