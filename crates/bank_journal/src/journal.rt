@@ -1,6 +1,7 @@
 // A journal in memory.
 use crate::reading::ENTRIES;
 use crate::summary::Summary;
+use crate::writing::has_bytes;
 use paygo_ports::BANK;
 use paygo_spec::{Config, Form};
 use std::marker::Model;
@@ -69,6 +70,34 @@ impl Journal {
     ghost use Rattle.paygo_spec.specs.Layout.{room};
     ghost use Rattle.paygo_spec.specs.Machine.{IsConfig};
     ghost use Rattle.bank_journal.specs.Summary.{summary_of};
+
+    /// The journal of a device that stands so, in bank 0 of a flash that isn't looked at: the number of the bank in use,
+    /// the place of the next entry, the configuration and the summary, all in range.
+    pub fn standing(number: u32, place: u16, config: &Config, summary: Summary) -> Journal
+        requires first { 1 ≤ number }
+        requires last { number ≤ 100000 }
+        requires behind_head { 12 ≤ place }
+        requires within { place ≤ 512 }
+        requires config { IsConfig config.now }
+        ensures { result ≡ record {
+            bank = 0;
+            at = record { number = number; place = place };
+            config = config.now;
+            summary = summary_of summary;
+        } }
+    {
+        has_bytes(&config.key);
+        let (_last, _bits) = summary.window.parts();
+        let _limit = summary.window.limit();
+        let _left = summary.clock.left();
+        Journal {
+            bank: 0,
+            number,
+            place,
+            config: *config,
+            summary,
+        }
+    }
 
     /// How many more entries the flash has room for, from 0 to 50,000,000: the free places of the bank in use, and 500
     /// for each later bank up to the 100,000th.

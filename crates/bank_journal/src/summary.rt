@@ -24,7 +24,7 @@ pub struct Summary {
 
 impl Summary {
     /// The summary of a new device: no count is spent, and no time is paid for.
-    pub(crate) fn fresh() -> Summary
+    pub fn fresh() -> Summary
         ensures { summary_of result ≡ fresh }
     {
         Summary {
@@ -37,7 +37,7 @@ impl Summary {
     /// one failure more, and seconds pass.
     ///
     /// The caller sees to it that the entry follows, and that a unit has at most 86,400 seconds.
-    pub(crate) fn add(&mut self, entry: Entry, unit: u32)
+    pub fn add(&mut self, entry: Entry, unit: u32)
         requires unit { unit ≤ 86400 }
         requires follows { follows (summary_of self.old) entry ≡ true }
         ensures { summary_of self.new ≡ snapshot unit (summary_of self.old) (entry ∷ []) }
@@ -56,7 +56,7 @@ impl Summary {
     }
 
     /// The summary of the device that is raised: the limit is the greater one.
-    pub(crate) fn raised(mut self) -> Summary
+    pub fn raised(mut self) -> Summary
         ensures { (unit : ℕ) → summary_of result ≡ snapshot unit (summary_of self) (Raised ∷ []) }
     {
         let (_last, _bits) = self.window.parts();

@@ -67,7 +67,7 @@ fn begin_bank<F: Flash>(
 
 /// What its type says of a key, in the words of the journal's rule: sixteen bytes. It does nothing, and only carries this
 /// fact to the proof.
-fn has_bytes(key: &[u8])
+pub(crate) fn has_bytes(key: &[u8])
     requires { length key.now ≡ 16 }
     ensures { IsKeyBytes key.now }
 {

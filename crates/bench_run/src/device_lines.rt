@@ -10,17 +10,17 @@ ghost use Rattle.bench_run.specs.Request.{events_of, IsRequest};
 use line_text::{after_prefix, first_word, key, number};
 use paygo_spec::{Config, Event, Form, is_divider};
 
-// What a line asks for, whose events are its meaning.
+/// What a line of a device asks for, whose events are its meaning.
 #[derive(Clone, Copy)]
-pub(crate) enum Request<'a> {
-    // This event.
+pub enum Request<'a> {
+    /// This event.
     One(Event),
-    // A key of the pad for each byte of this text but its spaces.
+    /// A key of the pad for each byte of this text but its spaces.
     Keys(&'a [u8]),
 }
 
-// The line without one byte 13 at its end.
-pub(crate) fn trimmed(line: &[u8]) -> &[u8]
+/// The line without one byte 13 at its end.
+pub fn trimmed(line: &[u8]) -> &[u8]
     ensures { result.now ≡ line_trimmed line.now }
 {
     match line.strip_suffix(b"\r") {
@@ -156,8 +156,8 @@ fn read_raise(line: &[u8]) -> Option<Event>
     }
 }
 
-// What a line asks for, where it has one of the six forms.
-pub(crate) fn request_in(line: &[u8]) -> Option<Request<'_>>
+/// What a line of a device asks for, where it has one of the six forms.
+pub fn request_in(line: &[u8]) -> Option<Request<'_>>
     ensures value { option_map events_of result ≡ events_in line.now }
     ensures range { IfSome result IsRequest }
 {

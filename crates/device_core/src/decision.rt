@@ -24,8 +24,8 @@ pub enum Decision {
     Raises,
 }
 
-// Decides what an event comes to, and tells the pad of it first: a key is pressed on it, and a tick lets it forget.
-pub(crate) fn decide<M: Mixer>(journal: &Journal, pad: &mut Pad, event: Event) -> Option<Decision>
+/// Decides what an event comes to, and tells the pad of it first: a key is pressed on it, and a tick lets it forget.
+pub fn decide<M: Mixer>(journal: &Journal, pad: &mut Pad, event: Event) -> Option<Decision>
     requires { IsEvent event }
     ensures decision { (keys : Keys) → pad.old ≡ kept_of keys → result ≡ decided M.next journal.now keys event }
     ensures pad { (keys : Keys) (history : History) → pad.old ≡ kept_of keys → event ≢ Event.Power →

@@ -15,7 +15,9 @@ mod replies;
 mod reply_text;
 mod unmade;
 
+pub use decision::{Decision, decide};
 pub use device::Device;
+pub use replies::reply_to;
 pub use paygo_spec::{Config, Event, Reply};
 pub use reply_text::{line, text};
 

@@ -48,8 +48,8 @@ fn reply_to_accepted(count: u16, value: u16, clock: &Clock) -> Reply
     }
 }
 
-// The reply to an entry that was added to the history, by the clock after it.
-pub(crate) fn reply_to(entry: Entry, clock: &Clock) -> Reply
+/// The reply to an entry that was added to the history, by the clock after it.
+pub fn reply_to(entry: Entry, clock: &Clock) -> Reply
     ensures { result ≡ reply_to_entry entry clock.now }
 {
     match entry {

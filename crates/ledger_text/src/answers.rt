@@ -57,8 +57,9 @@ fn bare(refusal: u64, why: &[u8]) -> Line
     line
 }
 
-// A refusal that tells a number.
-fn numbered(refusal: u64, why: &[u8], name: &[u8], n: u64) -> Line
+/// The line of a refusal that tells a number: the number of the refusal, why, and the name of the number and itself. It has no
+/// end of a line.
+pub fn numbered(refusal: u64, why: &[u8], name: &[u8], n: u64) -> Line
     requires short { (length why.now ≤ 12) × (length name.now ≤ 10) }
     ensures text { result ≡ refused_text refusal why.now (number name.now n ∷ []) }
     ensures len { length result ≤ 511 }

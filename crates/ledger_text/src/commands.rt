@@ -11,8 +11,8 @@ use crate::members::{
 use ledger_spec::{Command, Enrol, TextFault, Verb};
 use serde_json::Value;
 
-// A member that a command needs, or the fault of the rule that it breaks.
-fn need<T>(rule: u8, member: Option<T>) -> Result<T, TextFault>
+/// A member that a line needs, or the fault of the rule that it breaks where there is none.
+pub fn need<T>(rule: u8, member: Option<T>) -> Result<T, TextFault>
     ensures { MatchOption member (result ≡ Err (TextFault.Shape rule)) (λ value. result ≡ Ok value) }
 {
     match member {

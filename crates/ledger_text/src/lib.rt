@@ -5,13 +5,14 @@ mod answers;
 mod commands;
 mod laws;
 mod lines;
-mod members;
+pub mod members;
 mod one_line;
 mod orders;
-mod pieces;
+pub mod pieces;
 mod rows;
 
-pub use answers::{answer_line, fault_line, write};
+pub use answers::{answer_line, fault_line, numbered, write};
+pub use commands::need;
 pub use laws::{key_is_never_written, refused_lines};
 pub use ledger_spec::{Answer, Command, Enrol, TextFault};
 pub use lines::read;

@@ -9,8 +9,8 @@ use ledger_spec::{Name, Verb};
 use paygo_spec::{Form, GREAT, is_divider};
 use serde_json::Value;
 
-// The text of a member.
-fn text<'a>(value: &'a Value, member: &str) -> Option<&'a [u8]>
+/// The text of a member, where it is a text.
+pub fn text<'a>(value: &'a Value, member: &str) -> Option<&'a [u8]>
     ensures { option_copied result ≡ text_at member.now (view value.now) }
 {
     Some(value.get(member)?.as_str()?.as_bytes())
@@ -23,8 +23,8 @@ fn whole(value: &Value, member: &str) -> Option<u64>
     value.get(member).and_then(Value::as_u64)
 }
 
-// The whole number of a member, from the least to the most one.
-fn number(value: &Value, member: &str, least: u64, most: u64) -> Option<u64>
+/// The whole number of a member, where it is one from the least to the most.
+pub fn number(value: &Value, member: &str, least: u64, most: u64) -> Option<u64>
     ensures value { result ≡ number_at (is_within least most) member.now (view value.now) }
     ensures least { IfSome result (λ n. least ≤ n) }
     ensures most { IfSome result (λ n. n ≤ most) }
@@ -62,8 +62,8 @@ pub(crate) fn verb(value: &Value) -> Option<Verb>
     named(text(value, "do")?)
 }
 
-// `serial`
-pub(crate) fn serial(value: &Value) -> Option<Name>
+/// `serial`: a name of at most 16 bytes.
+pub fn serial(value: &Value) -> Option<Name>
     ensures value { result ≡ serial_in (view value.now) }
     ensures short { IfSome result (λ name. length name ≤ 16) }
 {
@@ -131,8 +131,8 @@ pub(crate) fn total(value: &Value) -> Option<u64>
     number(value, "total", 1, 1_000_000_000_000)
 }
 
-// `amount`
-pub(crate) fn amount(value: &Value) -> Option<u64>
+/// `amount`: a whole number from 1 to 1,000,000,000,000 smallest coins.
+pub fn amount(value: &Value) -> Option<u64>
     ensures value { result ≡ amount_in (view value.now) }
     ensures least { IfSome result (λ n. 1 ≤ n) }
     ensures most { IfSome result (λ n. n ≤ 10 ^ 12) }

@@ -28,8 +28,8 @@ fn push_name(line: &mut Line, name: &[u8])
     line.push(b"\":");
 }
 
-// Puts a member with a number at the end.
-pub(crate) fn push_number(line: &mut Line, name: &[u8], n: u64)
+/// Puts a member with a number at the end.
+pub fn push_number(line: &mut Line, name: &[u8], n: u64)
     requires short { length name.now ≤ 10 }
     requires room { length line.old + 34 ≤ 511 }
     ensures text { line.new ≡ with_member line.old (number name.now n) }
@@ -39,8 +39,8 @@ pub(crate) fn push_number(line: &mut Line, name: &[u8], n: u64)
     push_digits(line, n);
 }
 
-// Puts a member with a text at the end.
-pub(crate) fn push_text(line: &mut Line, name: &[u8], bytes: &[u8])
+/// Puts a member with a text of at most 32 bytes at the end, of which none needs an escape.
+pub fn push_text(line: &mut Line, name: &[u8], bytes: &[u8])
     requires short { (length name.now ≤ 10) × (length bytes.now ≤ 32) }
     requires room { length line.old + 48 ≤ 511 }
     ensures text { line.new ≡ with_member line.old (text name.now bytes.now) }
@@ -67,8 +67,8 @@ pub(crate) fn push_truth(line: &mut Line, name: &[u8], so: bool)
     }
 }
 
-// The beginning of the answer to a command that was done.
-pub(crate) fn done(what: &[u8]) -> Line
+/// The beginning of the answer to a line whose command was done: what it was about.
+pub fn done(what: &[u8]) -> Line
     requires { length what.now ≤ 12 }
     ensures text { result ≡ (codes "{\"ok\":\"" ++ what.now) ++ codes "\"" }
     ensures len { length result ≤ 60 }
