@@ -32,8 +32,10 @@ use Rattle.run_spec.specs.Text.{line_of, text}
 use Rattle.device_core.specs.declared.device.Device.{Device}
 use Rattle.device_core.specs.Memory.{Agrees, Recalls, IsDown, Does, Costs, CostsAsSaid, Remembers}
 use Rattle.paygo_ports.specs.declared.sink.WriteFault.{WriteFault}
-use Rattle.bench_run.specs.declared.bench.LineFault.TheVariants as fault
-use Rattle.bench_run.specs.Bench.{Desk, desk, IsAt, Ends, WorksBy, Works, DeviceWorks, Says, Wrote, unsaid, of_line}
+use Rattle.line_loop.specs.declared.handler.LineFault.TheVariants as fault
+use Rattle.line_output.specs.Written.{Wrote}
+use Rattle.line_loop.specs.Handling.{of_line}
+use Rattle.bench_run.specs.Bench.{Desk, desk, IsAt, Ends, WorksBy, Works, DeviceWorks, Says, unsaid}
 use Rattle.bench_run.proofs.Unseen.{remembered}
 
 -- an answer that has no text is written whole

@@ -1,7 +1,3 @@
-pub mod Cuts
-pub mod Pieces
-pub mod Held
-pub mod Gathering
 pub mod Unseen
 pub mod Answering
 pub mod Runs

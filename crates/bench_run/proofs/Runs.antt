@@ -13,8 +13,9 @@ use Rattle.run_spec.specs.Ran.{Agree, IsCut, SpendsBy}
 use Rattle.device_core.specs.declared.device.Device.{Device}
 use Rattle.device_core.specs.Memory.{Agrees, Recalls}
 use Rattle.paygo_ports.specs.declared.sink.WriteFault.{WriteFault}
-use Rattle.bench_run.specs.declared.bench.LineFault.TheVariants as line_fault
-use Rattle.bench_run.specs.Bench.{Desk, desk, IsAt, Done, Stopped, Ends, WorksBy, DeviceWorks, unsaid, of_line}
+use Rattle.line_loop.specs.declared.handler.LineFault.TheVariants as line_fault
+use Rattle.line_loop.specs.Handling.{of_line}
+use Rattle.bench_run.specs.Bench.{Desk, desk, IsAt, Done, Stopped, Ends, WorksBy, DeviceWorks, unsaid}
 
 -- one run after another
 pub run-append : (acts : Event → Option Reply → State → State → Type 0) (calls : State → Event → Option ℕ) (next : List ℕ → ℕ → ℕ) (start mid end : World) (steps more : List Step) (answers others : List (Option Answer))

@@ -1,9 +1,9 @@
 -- What a bench does with steps: they are answered one after the other, and each answer is written before the next step is
 -- taken.
-use Rattle.std.specs.Prelude.{◌≡◌, ◌<◌, ℕ, List, ◌++◌, length, take, true, Option, Some, None, Result, Ok, Err}
+use Rattle.std.specs.Prelude.{◌≡◌, ℕ, List, ◌++◌, true, Option, Some, None, Result, Ok, Err}
 use Rattle.paygo_spec.specs.declared.Event.{Event}
 use Rattle.paygo_spec.specs.declared.Reply.{Reply}
-use Rattle.paygo_spec.specs.Faults.{Rose, Counted}
+use Rattle.paygo_spec.specs.Faults.{Counted}
 use Rattle.paygo_spec.specs.Flash.{FlashView, KeepsPlan}
 use Rattle.paygo_spec.specs.Machine.{State, Acts, calls_of}
 use Rattle.paygo_spec.specs.Streams.{SinkView}
@@ -17,8 +17,9 @@ use Rattle.run_spec.specs.Ran.{AsksFor, IsCut, MayChange, SpendsBy, uses_keeper,
 use Rattle.device_core.specs.declared.device.Device.{Device}
 use Rattle.device_core.specs.Memory.{Agrees, Recalls, Holds}
 use Rattle.paygo_ports.specs.declared.sink.WriteFault.{WriteFault}
-use Rattle.bench_run.specs.declared.bench.LineFault.{LineFault}
-use Rattle.bench_run.specs.declared.bench.LineFault.TheVariants as fault
+use Rattle.line_loop.specs.declared.handler.LineFault.{LineFault}
+use Rattle.line_loop.specs.declared.handler.LineFault.TheVariants as fault
+use Rattle.line_loop.specs.Handling.{of_line}
 
 -- What a bench works with: its device, and what is seen of keeper, flash and sink.
 pub record Desk : Type 0 where
@@ -106,11 +107,6 @@ pub record Works (next : List ℕ → ℕ → ℕ) (mode : Mode) (steps : List S
   pub seen : WorksBy (Acts next) Agrees (calls_of next) next mode steps result old new
   pub unseen : WorksBy (ActsUnseen next) Recalls unsaid next mode steps result old new
 
--- A fault of the sink as one of a line.
-abbrev pub of_line : Result (Unit {0}) WriteFault → Result (Unit {0}) LineFault
-of_line (Ok done) = Ok done
-of_line (Err failed) = Err fault.Write
-
 -- The same of steps that leave the keeper as it is, whatever it tells, in every mode that takes them.
 abbrev pub DeviceWorks : (List ℕ → ℕ → ℕ) → List Step → Result (Unit {0}) WriteFault → Device → FlashView
     → SinkView → Device → FlashView → SinkView → Type 0
@@ -132,18 +128,6 @@ abbrev pub Says : (List ℕ → ℕ → ℕ) → List Step → Result (Unit {0})
 Says next steps result before after =
     (mode : Mode) (device : Device) (keeper : KeeperView) (flash : FlashView)
     → Works next mode steps (of_line result) (desk device keeper flash before) (desk device keeper flash after)
-
--- These bytes were written, or where the sink failed the first of them, fewer than all.
-abbrev pub Wrote : List ℕ → Result (Unit {0}) WriteFault → SinkView → SinkView → Type 0
-Wrote bytes (Ok done) old new = new.written ≡ old.written ++ bytes
-Wrote bytes (Err fault) old new = (n : ℕ) × (n < length bytes) × (new.written ≡ old.written ++ take n bytes)
-
--- Who is to blame for a line that wasn't answered: the keeper at Keep and the sink at Write, each by one fault. Else neither
--- had one.
-abbrev pub HasCauses : Result (Unit {0}) LineFault → (keeper keeper' sink sink' : ℕ) → Type 0
-HasCauses (Err fault.Keep) keeper keeper' sink sink' = Rose keeper keeper' × (sink' ≡ sink)
-HasCauses (Err fault.Write) keeper keeper' sink sink' = (keeper' ≡ keeper) × Rose sink sink'
-HasCauses result keeper keeper' sink sink' = (keeper' ≡ keeper) × (sink' ≡ sink)
 
 -- The line is one of the ledger that failed.
 abbrev pub IsLedgerFault : Result (Unit {0}) LineFault → Type 0

@@ -1,4 +1,2 @@
-pub mod Reader
-pub mod Gather
 pub mod Request
 pub mod Bench

@@ -1,13 +1,12 @@
 // A bench: a device and a ledger whose lines are read and whose answers are written.
-ghost use Rattle.std.specs.Prelude.{◌≡◌};
-ghost use Rattle.bench_run.specs.Bench.{of_line};
 
 use crate::device_lines::{Request, request_in, trimmed};
-use crate::output::{write_answer, write_fault, write_reply, write_text};
 use device_core::Device;
 use ledger_keeper::Keeper;
 use ledger_spec::{Answer, Command, LedgerFault, TextFault};
 use ledger_text::read;
+use line_loop::{LineFault, as_line_fault};
+use line_output::{write_answer, write_fault, write_reply, write_text};
 use line_text::Line;
 use loan_ledger::apply;
 use paygo_ports::{Flash, Sink, WriteFault};
@@ -17,17 +16,6 @@ use std::alloc::Global;
 use std::marker::Model;
 use token_chain::Mixer;
 use token_issue::Tables;
-
-/// Why a line wasn't answered.
-#[derive(Clone, Copy, Debug, PartialEq, Eq)]
-pub enum LineFault {
-    /// The keeper failed.
-    Keep,
-    /// There was no memory for a line of the ledger.
-    Memory,
-    /// The sink failed.
-    Write,
-}
 
 /// A device and the chain tables of the ledger, under one mixer: before it lines come in, and behind it answers go out. The
 /// tables are made at the first command. It is seen as its device, since what the tables keep never changes an answer.
@@ -59,7 +47,8 @@ impl<M: Mixer> Bench<M> {
     ghost use Rattle.run_spec.specs.Meaning.{is_ledger_text, steps_of_line, steps_of_ledger, steps_of_device, trimmed as line_trimmed};
     ghost use Rattle.run_spec.specs.Run.{Say, Do, Act};
     ghost use Rattle.device_core.specs.Memory.{is_on, Holds, IsDown, Does, CostsAsSaid, Remembers};
-    ghost use Rattle.bench_run.specs.Bench.{desk, Works, DeviceDid, Says, HasCauses, IsLedgerFault};
+    ghost use Rattle.line_loop.specs.Handling.{HasCauses, of_line};
+    ghost use Rattle.bench_run.specs.Bench.{desk, Works, DeviceDid, Says, IsLedgerFault};
 
     /// A bench whose device is off, and has a pad on which nothing was typed.
     pub fn start() -> Bench<M>
@@ -168,7 +157,7 @@ impl<M: Mixer> Bench<M> {
         if text[0] == b'{' {
             return self.ledger_line(alloc, mode, text, keeper, sink);
         }
-        told(self.device_line(mode, text, flash, sink))
+        as_line_fault(self.device_line(mode, text, flash, sink))
     }
 
     // The text of a line of the ledger.
@@ -190,7 +179,7 @@ impl<M: Mixer> Bench<M> {
             (desk self.new (D.view keeper.new) flash (K.view sink.new)) }
     {
         if mode == Mode::Device {
-            return told(write_text(sink, b"no ledger here"));
+            return as_line_fault(write_text(sink, b"no ledger here"));
         }
         match read(alloc, text) {
             Ok(command) => self.do_command(alloc, mode, &command, keeper, sink),
@@ -198,7 +187,7 @@ impl<M: Mixer> Bench<M> {
                 if fault == TextFault::Memory {
                     return Err(LineFault::Memory);
                 }
-                told(write_fault(sink, &fault))
+                as_line_fault(write_fault(sink, &fault))
             }
         }
     }
@@ -223,7 +212,7 @@ impl<M: Mixer> Bench<M> {
             (desk self.new (D.view keeper.new) flash (K.view sink.new)) }
     {
         match self.command(alloc, keeper, command) {
-            Ok(answer) => told(write_answer(sink, &answer)),
+            Ok(answer) => as_line_fault(write_answer(sink, &answer)),
             Err(LedgerFault::Keeper) => Err(LineFault::Keep),
             Err(LedgerFault::Memory) => Err(LineFault::Memory),
         }
@@ -326,16 +315,6 @@ impl<M: Mixer> Bench<M> {
     {
         let reply = self.event(flash, event);
         write_reply(sink, reply)
-    }
-}
-
-// A fault of the sink is one of the line.
-fn told(outcome: Result<(), WriteFault>) -> Result<(), LineFault>
-    ensures { result ≡ of_line outcome }
-{
-    match outcome {
-        Ok(()) => Ok(()),
-        Err(WriteFault) => Err(LineFault::Write),
     }
 }
 

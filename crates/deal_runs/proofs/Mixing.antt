@@ -3,7 +3,7 @@ use Rattle.std.proofs.Common.{◌≡◌, ℕ, true, false, inl, inr, List, [], �
 use Rattle.ledger_spec.specs.Tables.{Tables}
 use Rattle.run_spec.specs.declared.Mode.{Mode}
 use Rattle.run_spec.specs.declared.Mode.TheVariants as mode_is
-use Rattle.line_loop.specs.Runs.{RunsTold}
+use Rattle.bench_loop.specs.Runs.{RunsTold}
 use Rattle.deal_runs.specs.Programs.{Program, Lasting, these, Finds, lasting_after, AreRuns, AreOfMode}
 use Rattle.deal_laws.specs.Parted.{IsMix}
 

@@ -11,7 +11,7 @@ use Rattle.run_spec.specs.declared.Status.TheVariants as status
 use Rattle.run_spec.specs.Meaning.{steps_of_line}
 use Rattle.run_spec.specs.Ran.{Agree, EndsBy, uses_keeper, uses_flash}
 use Rattle.run_spec.specs.Run.{Step, Say, Do, Act, Answer, Said, Did, Told, World, beginning, Run}
-use Rattle.line_loop.specs.Runs.{RunOf, RunsTold}
+use Rattle.bench_loop.specs.Runs.{RunOf, RunsTold}
 use Rattle.deal_laws.specs.Meaning.{Turn, Unanswered, Restarted}
 use Rattle.deal_laws.specs.Lives.{AreOf}
 use Rattle.deal_laws.specs.Parted.{ShopLives, DeviceLives}

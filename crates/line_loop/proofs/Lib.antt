@@ -1,5 +1,7 @@
+pub mod Cuts
+pub mod Pieces
+pub mod Held
+pub mod Gathering
 pub mod Turning
 pub mod Looping
-pub mod Sides
-pub mod Promising
 pub mod Going

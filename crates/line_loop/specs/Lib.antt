@@ -1,2 +1,5 @@
+pub mod Reader
+pub mod Gather
+pub mod Handling
+pub mod Outside
 pub mod Turn
-pub mod Runs

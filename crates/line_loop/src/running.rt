@@ -1,50 +1,47 @@
-// The turns of the loop: a line is taken and answered, or the run ends.
-ghost use Rattle.std.specs.Prelude.{◌≡◌, ◌≢◌, ◌≤◌, true, Some};
-ghost use Rattle.run_spec.specs.declared.Mode.{Mode};
-ghost use Rattle.device_core.specs.Memory.{Holds};
-ghost use Rattle.bench_run.specs.Bench.{desk, of_line};
-ghost use Rattle.line_loop.specs.Runs.{outside, Causes, IsLong, Reads, RunsTold, RunsUnseen};
-ghost use Rattle.line_loop.specs.Turn.{parts, Turned, ended_by};
+// The turns of the loop: a line is taken and handled, or the run ends.
+ghost use Rattle.std.specs.Prelude.{◌≡◌, ◌≢◌, true, Some};
+ghost use Rattle.line_loop.specs.Handling.{desk, Loops};
+ghost use Rattle.line_loop.specs.Outside.{outside, Causes, IsLong, Reads};
+ghost use Rattle.line_loop.specs.Turn.{parts, Turned, ended_by, concluded_by};
 
-use bench_run::{Bench, LineFault, Lines, LinesFault, Next};
+use crate::handler::{LineFault, LineHandler, as_line_fault};
+use crate::lines::{Lines, LinesFault, Next};
 use ledger_keeper::Keeper;
 use paygo_ports::{Flash, Sink, Source, WriteFault};
-use run_spec::{Mode, Status};
+use run_spec::Status;
 use std::alloc::Global;
-use token_chain::Mixer;
 
 /// The most bytes of input that are taken in one run: 2^40.
 const BUDGET: u64 = 1 << 40;
 
-// Takes the next line and answers it. Answers the status where the run ends with it.
-fn turn<M: Mixer, S: Source, K: Sink, D: Keeper, F: Flash>(
+// Takes the next line and has it handled. Answers the status where the run ends with it.
+fn turn<H: LineHandler, S: Source, K: Sink, D: Keeper, F: Flash>(
     alloc: Global,
-    mode: Mode,
     lines: &mut Lines,
-    bench: &mut Bench<M>,
+    handler: &mut H,
     source: &mut S,
     sink: &mut K,
     keeper: &mut D,
     flash: &mut F,
 ) -> Option<Status>
-    requires { Holds bench.old (F.view flash.old) }
-    ensures holds { Holds bench.new (F.view flash.new) }
+    requires { H.is_ready handler.old (F.view flash.old) }
+    ensures is_ready { H.is_ready handler.new (F.view flash.new) }
     ensures causes { Causes result
         (outside (S.view source.old) (K.view sink.old) (D.view keeper.old) (F.view flash.old))
         (outside (S.view source.new) (K.view sink.new) (D.view keeper.new) (F.view flash.new)) }
-    ensures keeper { mode ≡ Mode.Device → keeper.new ≡ keeper.old }
-    ensures flash { mode ≡ Mode.Serve → flash.new ≡ flash.old }
-    ensures turned { Turned M.next mode result
+    ensures keeper { H.spares_keeper handler.old → (keeper.new ≡ keeper.old) × H.spares_keeper handler.new }
+    ensures flash { H.spares_flash handler.old → (flash.new ≡ flash.old) × H.spares_flash handler.new }
+    ensures turned { Turned H.handles H.concludes result
         (parts lines.old (S.view source.old)
-        (desk bench.old (D.view keeper.old) (F.view flash.old) (K.view sink.old)))
+        (desk handler.old (D.view keeper.old) (F.view flash.old) (K.view sink.old)))
         (parts lines.new (S.view source.new)
-        (desk bench.new (D.view keeper.new) (F.view flash.new) (K.view sink.new))) }
+        (desk handler.new (D.view keeper.new) (F.view flash.new) (K.view sink.new))) }
 {
     let mut line = [0u8; 4096];
     match lines.next(source, &mut line) {
-        Ok(Next::Line { len }) => ended(bench.line(alloc, mode, &line[..len], keeper, flash, sink)),
-        Ok(Next::Long { length }) => long_ended(bench.long(length, sink)),
-        Ok(Next::End) => Some(Status::Ok),
+        Ok(Next::Line { len }) => ended(handler.line(alloc, &line[..len], keeper, flash, sink)),
+        Ok(Next::Long { length }) => ended(as_line_fault(handler.long(length, sink))),
+        Ok(Next::End) => Some(concluded(handler.end(sink))),
         Err(LinesFault::Read) => Some(Status::Read),
         Err(LinesFault::Budget) => Some(Status::Long),
     }
@@ -62,59 +59,51 @@ fn ended(outcome: Result<(), LineFault>) -> Option<Status>
     }
 }
 
-// The status with which a run ends where the sink failed.
-fn long_ended(outcome: Result<(), WriteFault>) -> Option<Status>
-    ensures { result ≡ ended_by (of_line outcome) }
+// The status with which a run ends behind its last word.
+fn concluded(outcome: Result<(), WriteFault>) -> Status
+    ensures { result ≡ concluded_by outcome }
 {
     match outcome {
-        Ok(()) => None,
-        Err(WriteFault) => Some(Status::Write),
+        Ok(()) => Status::Ok,
+        Err(WriteFault) => Status::Write,
     }
 }
 
-/// Runs the lines of the source over keeper and flash, of the side or sides that the mode takes, with a device that is off at
-/// first. Each answer is written before the next event happens or the next line is taken.
+/// Hands the lines of the source to what handles them, each one before the next is taken, and behind the last one of an input that
+/// has ended lets it have its last word.
 ///
-/// It ends with `Ok` only where the source has told its end, and every line was answered; with `Read`, `Write` or `Keep` where
-/// source, sink or keeper failed, once, and counted it, and no other of them has a fault; with `Long` exactly where 2^40 bytes were
-/// handed out, the source hasn't told its end, and every whole line was answered; with `Memory` where there was none for a line of
-/// the ledger. It never ends with `Usage`, and in `Mode::Device` neither with `Keep` nor with `Memory`.
+/// It ends with `Ok` only where the source has told its end, every line was handled, and the last word was said; with `Read`,
+/// `Write` or `Keep` where source, sink or keeper failed, once, and counted it, and no other of them has a fault; with `Long`
+/// exactly where 2^40 bytes were handed out, the source hasn't told its end, and every whole line was handled; with `Memory`
+/// where a line found none. It never ends with `Usage`. Where a line failed, less than a block of 8,192 bytes was handed out
+/// behind it.
 ///
-/// What is written is the text of the answers to the lines that were handed out. Where keeper and flash tell what they hold, the
-/// answers are those of the machine of shop and device (`run`); over a flash that tells no words, those of the device by what it
-/// has in memory, a history that a device can have (`unseen`). Where a line failed, less than a block of 8,192 bytes was handed
-/// out behind it. It takes memory, but not in `Mode::Device`.
-pub fn run_lines<M: Mixer, S: Source, K: Sink, D: Keeper, F: Flash>(
+/// The caller sees to it that what handles the lines is ready.
+pub fn run_lines<H: LineHandler, S: Source, K: Sink, D: Keeper, F: Flash>(
     alloc: Global,
-    mode: Mode,
+    handler: &mut H,
     source: &mut S,
     sink: &mut K,
     keeper: &mut D,
     flash: &mut F,
 ) -> Status
+    requires is_ready { H.is_ready handler.old (F.view flash.old) }
     ensures usage { result ≢ Status.Usage }
-    ensures keeper { mode ≡ Mode.Device →
-        (keeper.new ≡ keeper.old) × (result ≢ Status.Keep) × (result ≢ Status.Memory) }
-    ensures flash { mode ≡ Mode.Serve → flash.new ≡ flash.old }
+    ensures keeper { H.spares_keeper handler.old → keeper.new ≡ keeper.old }
+    ensures flash { H.spares_flash handler.old → flash.new ≡ flash.old }
     ensures ended { result ≡ Status.Ok → (S.view source.new).ended ≡ true }
     ensures causes { Causes (Some result)
         (outside (S.view source.old) (K.view sink.old) (D.view keeper.old) (F.view flash.old))
         (outside (S.view source.new) (K.view sink.new) (D.view keeper.new) (F.view flash.new)) }
     ensures long { IsLong result (S.view source.old) (S.view source.new) }
     ensures read { Reads result (S.view source.old) (S.view source.new) }
-    ensures run { RunsTold M.next mode result
-        (outside (S.view source.old) (K.view sink.old) (D.view keeper.old) (F.view flash.old))
-        (outside (S.view source.new) (K.view sink.new) (D.view keeper.new) (F.view flash.new)) }
-    ensures unseen { RunsUnseen M.next mode result
-        (outside (S.view source.old) (K.view sink.old) (D.view keeper.old) (F.view flash.old))
-        (outside (S.view source.new) (K.view sink.new) (D.view keeper.new) (F.view flash.new)) }
+    ensures loops { Loops H.handles H.concludes result (S.view source.old) (S.view source.new)
+        (desk handler.old (D.view keeper.old) (F.view flash.old) (K.view sink.old))
+        (desk handler.new (D.view keeper.new) (F.view flash.new) (K.view sink.new)) }
 {
     let mut lines = Lines::new(BUDGET);
-    let mut bench = Bench::<M>::start();
     'turns: loop {
-        match turn(
-            alloc, mode, &mut lines, &mut bench, source, sink, keeper, flash,
-        ) {
+        match turn(alloc, &mut lines, handler, source, sink, keeper, flash) {
             None => {}
             Some(status) => return status,
         }

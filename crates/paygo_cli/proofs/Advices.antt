@@ -9,7 +9,7 @@ use Rattle.paygo_ports.specs.declared.sink.WriteFault.{WriteFault}
 use Rattle.sync_advice.specs.declared.advice.Advice.{Advice}
 use Rattle.sync_advice.specs.declared.advice.AdviceFault.{AdviceFault}
 use Rattle.sync_advice.specs.Answers.{AnswersAs}
-use Rattle.bench_run.specs.Bench.{Wrote}
+use Rattle.line_output.specs.Written.{Wrote}
 use Rattle.paygo_cli.specs.Ends.{written_by}
 use Rattle.paygo_cli.specs.Advised.{order_line, advise_line, text_of_list, no_device_line, Says, WritesAdvice}
 use Rattle.paygo_cli.proofs.Pieces.{behind, cut_short}

@@ -9,7 +9,7 @@ use Rattle.fleet_spec.specs.Script.{enrols_of, steps_of}
 use Rattle.fleet_spec.specs.Fleet.{Came}
 use Rattle.fleet_spec.specs.Text.{with_size, with_totals, text_of_fleet}
 use Rattle.fleet_laws.proofs.Laws.{once}
-use Rattle.bench_run.specs.Bench.{Wrote}
+use Rattle.line_output.specs.Written.{Wrote}
 use Rattle.paygo_cli.specs.Ends.{IsFleet, WritesFleet, written_by}
 
 -- totals of the script that was drawn

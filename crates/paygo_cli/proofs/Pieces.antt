@@ -7,7 +7,7 @@ use Rattle.paygo_spec.specs.Streams.{SinkView}
 use Rattle.paygo_ports.specs.declared.sink.WriteFault.{WriteFault}
 use Rattle.loan_ledger.specs.Audit.{Findings}
 use Rattle.loan_ledger.specs.AuditText.{wrong_line, numbers_line, text_of_findings}
-use Rattle.bench_run.specs.Bench.{Wrote}
+use Rattle.line_output.specs.Written.{Wrote}
 
 -- a text was written behind one that was written whole
 pub behind : (a b : List ℕ) (result : Result (Unit {0}) WriteFault) (old mid new : SinkView) → mid.written ≡ old.written ++ a → Wrote b result mid new → Wrote (a ++ b) result old new

@@ -11,8 +11,8 @@ ghost use Rattle.ledger_spec.specs.Keeper.{KeeperView};
 ghost use Rattle.ledger_spec.specs.Sorted.{orders_for};
 ghost use Rattle.ledger_spec.specs.Tables.{Tables, row_of};
 ghost use Rattle.run_spec.specs.declared.Status.{Status};
-ghost use Rattle.bench_run.specs.Bench.{Wrote};
-ghost use Rattle.line_loop.specs.Runs.{outside, Causes};
+ghost use Rattle.line_output.specs.Written.{Wrote};
+ghost use Rattle.bench_loop.specs.Runs.{outside, Causes};
 ghost use Rattle.paygo_cli.specs.Advised.{order_line, text_of_list, WritesAdvice};
 
 use crate::words::Behind;

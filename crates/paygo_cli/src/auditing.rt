@@ -9,8 +9,8 @@ ghost use Rattle.ledger_spec.specs.Tables.{Tables};
 ghost use Rattle.run_spec.specs.declared.Status.{Status};
 ghost use Rattle.loan_ledger.specs.Audit.{audited, findings_of};
 ghost use Rattle.loan_ledger.specs.AuditText.{wrong_line, text_of_findings};
-ghost use Rattle.bench_run.specs.Bench.{Wrote};
-ghost use Rattle.line_loop.specs.Runs.{outside, Causes};
+ghost use Rattle.line_output.specs.Written.{Wrote};
+ghost use Rattle.bench_loop.specs.Runs.{outside, Causes};
 ghost use Rattle.paygo_cli.specs.Ends.{WritesText, written_by};
 
 use crate::writing::written;

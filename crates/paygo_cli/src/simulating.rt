@@ -5,7 +5,7 @@ ghost use Rattle.paygo_spec.specs.Streams.{SourceView};
 ghost use Rattle.run_spec.specs.declared.Status.{Status};
 ghost use Rattle.fleet_spec.specs.Text.{with_size, with_entries, with_totals};
 ghost use Rattle.ledger_spec.specs.Keeper.{KeeperView};
-ghost use Rattle.line_loop.specs.Runs.{outside, Causes};
+ghost use Rattle.bench_loop.specs.Runs.{outside, Causes};
 ghost use Rattle.paygo_cli.specs.Ends.{IsFleet, WritesFleet, written_by};
 
 use crate::writing::written;

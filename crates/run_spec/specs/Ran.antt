@@ -1,6 +1,6 @@
 -- The parts of what a run of the program over lines did: what it uses, and two tables by the status: which steps it took,
 -- with what stands then (`EndsBy`), and which bytes were written (`WritesBy`). The record of the whole run, `Ran`, is made
--- of them in the specs of line_loop.
+-- of them in the specs of bench_loop.
 use Rattle.std.specs.Prelude.{◌≡◌, ◌≢◌, ℕ, suc, ◌<◌, ◌≤◌, Bool, true, false, ◌⊎◌, List, [], ◌∷◌, ◌++◌, length, take, Option, Some, None, if◌then◌else◌}
 use Rattle.paygo_spec.specs.declared.Event.{Event}
 use Rattle.paygo_spec.specs.declared.Reply.{Reply}

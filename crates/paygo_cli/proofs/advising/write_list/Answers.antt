@@ -1,5 +1,5 @@
 use Rattle.std.proofs.Common.{ℕ, List, [], ◌∷◌, ◌++◌, Ok, Err, ap, subst}
-use Rattle.bench_run.specs.Bench.{Wrote}
+use Rattle.line_output.specs.Written.{Wrote}
 use Rattle.paygo_cli.proofs.Advices.{list_written, list_cut}
 use Rattle.paygo_cli.proofs.advising.write_list.Goals as goal
 

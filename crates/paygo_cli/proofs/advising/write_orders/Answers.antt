@@ -1,5 +1,5 @@
 use Rattle.std.proofs.Common.{◌≡◌, ℕ, List, [], ◌∷◌, ◌++◌, Err, ap, subst}
-use Rattle.bench_run.specs.Bench.{Wrote}
+use Rattle.line_output.specs.Written.{Wrote}
 use Rattle.paygo_cli.specs.Advised.{order_line}
 use Rattle.paygo_cli.proofs.Pieces.{cut_at}
 use Rattle.paygo_cli.proofs.advising.write_orders.Goals as goal

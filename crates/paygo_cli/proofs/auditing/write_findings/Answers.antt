@@ -2,7 +2,7 @@ use Rattle.std.proofs.Common.{ℕ, List, [], ◌∷◌, ◌++◌, Ok, Err, ap, s
 use Rattle.std.specs.List.{flat_map}
 use Rattle.loan_ledger.specs.Audit.{findings_of}
 use Rattle.loan_ledger.specs.AuditText.{wrong_line}
-use Rattle.bench_run.specs.Bench.{Wrote}
+use Rattle.line_output.specs.Written.{Wrote}
 use Rattle.paygo_cli.proofs.Pieces.{findings_written, findings_cut}
 use Rattle.paygo_cli.proofs.auditing.write_findings.Goals as goal
 

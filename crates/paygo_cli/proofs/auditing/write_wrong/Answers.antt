@@ -1,6 +1,6 @@
 use Rattle.std.proofs.Common.{◌≡◌, ℕ, List, [], ◌∷◌, ◌++◌, Err, ap, subst}
 use Rattle.loan_ledger.specs.AuditText.{wrong_line}
-use Rattle.bench_run.specs.Bench.{Wrote}
+use Rattle.line_output.specs.Written.{Wrote}
 use Rattle.paygo_cli.proofs.Pieces.{cut_at}
 use Rattle.paygo_cli.proofs.auditing.write_wrong.Goals as goal
 

@@ -1,6 +1,6 @@
 use Rattle.std.proofs.Common.{ℕ, List, [], ◌∷◌, ◌++◌, ◌∙◌, ap, subst, sym}
 use Rattle.run_spec.specs.declared.Status.{Status}
-use Rattle.bench_run.specs.Bench.{Wrote}
+use Rattle.line_output.specs.Written.{Wrote}
 use Rattle.paygo_cli.specs.Ends.{WritesFleet}
 use Rattle.paygo_cli.proofs.Fleets.{text_is, line_written}
 use Rattle.paygo_cli.proofs.simulating.run_simulation.Goals as goal

@@ -3,7 +3,8 @@ use Rattle.std.specs.Prelude.{codes}
 use Rattle.run_spec.specs.declared.Mode.TheVariants as mode
 use Rattle.run_spec.specs.Run.{Step, Say}
 use Rattle.run_spec.specs.Meaning.{steps_of_device}
-use Rattle.bench_run.specs.Bench.{desk, Works, of_line}
+use Rattle.line_loop.specs.Handling.{of_line}
+use Rattle.bench_run.specs.Bench.{desk, Works}
 use Rattle.bench_run.proofs.Answering.{said, steps_asked, steps_unread, uses_device}
 use Rattle.bench_run.proofs.bench.Bench.device_line.Goals as goal
 

@@ -1,9 +1,10 @@
 use Rattle.std.proofs.Common.{[], ◌∷◌, sym, subst}
 use Rattle.run_spec.specs.Run.{Do}
 use Rattle.device_core.specs.declared.device.Device.{Device}
-use Rattle.bench_run.specs.declared.bench.LineFault.TheVariants as fault
+use Rattle.line_loop.specs.declared.handler.LineFault.TheVariants as fault
 use Rattle.std.specs.Prelude.{Err}
-use Rattle.bench_run.specs.Bench.{desk, Works, of_line}
+use Rattle.line_loop.specs.Handling.{of_line}
+use Rattle.bench_run.specs.Bench.{desk, Works}
 use Rattle.bench_run.proofs.Answering.{served, failed, refused, uses_ledger}
 use Rattle.bench_run.proofs.bench.Bench.do_command.Goals as goal
 

@@ -5,7 +5,8 @@ use Rattle.ledger_spec.specs.AnswerText.{text_of_fault}
 use Rattle.run_spec.specs.declared.Mode.TheVariants as mode
 use Rattle.run_spec.specs.Run.{Step, Do, Say}
 use Rattle.run_spec.specs.Meaning.{steps_of_ledger}
-use Rattle.bench_run.specs.Bench.{desk, Works, of_line}
+use Rattle.line_loop.specs.Handling.{of_line}
+use Rattle.bench_run.specs.Bench.{desk, Works}
 use Rattle.bench_run.proofs.Answering.{said, unread, steps_read, read_ok, read_fault}
 use Rattle.bench_run.proofs.bench.Bench.ledger_line.Goals as goal
 

@@ -1,7 +1,8 @@
 use Rattle.std.proofs.Common.{◌≡◌, ◌≢◌, List, length, get_or, subst, sym, rules}
 use Rattle.std.specs.Prelude.{Ok}
 use Rattle.run_spec.specs.Run.{Step}
-use Rattle.bench_run.specs.Bench.{desk, Works, of_line}
+use Rattle.line_loop.specs.Handling.{of_line}
+use Rattle.bench_run.specs.Bench.{desk, Works}
 use Rattle.bench_run.proofs.Answering.{nothing, steps_none, steps_ledger, steps_device}
 use Rattle.bench_run.proofs.bench.Bench.line.Goals as goal
 

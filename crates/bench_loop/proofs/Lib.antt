@@ -1,0 +1,5 @@
+pub mod Turning
+pub mod Looping
+pub mod Sides
+pub mod Promising
+pub mod Going
