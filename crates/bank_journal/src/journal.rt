@@ -80,10 +80,10 @@ impl Journal {
         requires within { place ≤ 512 }
         requires config { IsConfig config.now }
         ensures { result ≡ record {
-            bank = 0;
-            at = record { number = number; place = place };
-            config = config.now;
-            summary = summary_of summary;
+          bank = 0;
+          at = record { number = number; place = place };
+          config = config.now;
+          summary = summary_of summary;
         } }
     {
         has_bytes(&config.key);

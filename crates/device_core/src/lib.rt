@@ -17,8 +17,8 @@ mod unmade;
 
 pub use decision::{Decision, decide};
 pub use device::Device;
-pub use replies::reply_to;
 pub use paygo_spec::{Config, Event, Reply};
+pub use replies::reply_to;
 pub use reply_text::{line, text};
 
 /// The snapshot of a history decides every event, although the entries are forgotten: what is answered, which entry is
