@@ -1,5 +1,4 @@
-pub mod Turning
 pub mod Looping
-pub mod Sides
 pub mod Promising
+pub mod Sides
 pub mod Going

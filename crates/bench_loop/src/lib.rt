@@ -1,7 +1,7 @@
-// The loop over lines: each line of the input is taken to a bench and answered before the next one is read, until the run
-// ends.
+// The lines of shop and device: a bench handles each line of the input, and its answers are those of the machine of both ends.
 #![tactic(auto)]
 
 mod running;
+mod side;
 
-pub use running::run_lines;
+pub use running::run_bench;

@@ -8,7 +8,8 @@ use Rattle.run_spec.specs.declared.Mode.{Mode}
 use Rattle.run_spec.specs.declared.Status.{Status}
 use Rattle.run_spec.specs.Ran.{Agree, uses_keeper, uses_flash}
 use Rattle.run_spec.specs.Run.{World, beginning}
-use Rattle.bench_loop.specs.Runs.{Outside, RunOf, RunsTold}
+use Rattle.line_loop.specs.Outside.{Outside}
+use Rattle.bench_loop.specs.Runs.{RunOf, RunsTold}
 use Rattle.deal_laws.specs.Meaning.{Turn, Restarted, IsDeal}
 use Rattle.deal_laws.specs.Lives.{first_day, AreOf}
 use Rattle.deal_laws.specs.Runs.{turns_of, IsLife}

@@ -11,7 +11,8 @@ use Rattle.run_spec.specs.declared.Status.{Status}
 use Rattle.run_spec.specs.Headline.{IsMatched}
 use Rattle.run_spec.specs.Ran.{WritesBy, uses_keeper, uses_flash}
 use Rattle.run_spec.specs.Run.{Step, Answer, World}
-use Rattle.bench_loop.specs.Runs.{Outside, RunsTold}
+use Rattle.line_loop.specs.Outside.{Outside}
+use Rattle.bench_loop.specs.Runs.{RunsTold}
 use Rattle.deal_laws.specs.Lives.{Lives, first_day}
 use Rattle.deal_laws.specs.Meaning.{Turn, Restarted, IsDeal}
 use Rattle.deal_laws.specs.Parted.{IsMix}

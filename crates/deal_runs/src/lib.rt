@@ -9,7 +9,8 @@ ghost use Rattle.ledger_spec.specs.Sound.{StaysBelow};
 ghost use Rattle.ledger_spec.specs.Tables.{Tables, no_tables};
 ghost use Rattle.run_spec.specs.declared.Mode.{Mode};
 ghost use Rattle.run_spec.specs.declared.Status.{Status};
-ghost use Rattle.bench_loop.specs.Runs.{Outside, RunsTold};
+ghost use Rattle.line_loop.specs.Outside.{Outside};
+ghost use Rattle.bench_loop.specs.Runs.{RunsTold};
 ghost use Rattle.deal_laws.specs.Parted.{IsMix};
 ghost use Rattle.deal_runs.specs.Programs.{Program, Lasting, these, AreRuns, AreOfMode, HoldSame, AreDeal, ArePartedDeal, RunsOn};
 

@@ -7,7 +7,7 @@ use Rattle.paygo_spec.specs.Faults.{Rose}
 use Rattle.paygo_spec.specs.Flash.{FlashView}
 use Rattle.paygo_spec.specs.Streams.{SourceView, SinkView}
 use Rattle.ledger_spec.specs.Keeper.{KeeperView}
-use Rattle.bench_loop.specs.Runs.{Outside, outside, Causes, FaultIf, is_keep, IsCalm}
+use Rattle.line_loop.specs.Outside.{Outside, outside, Causes, FaultIf, is_keep, IsCalm}
 use Rattle.paygo_cli.specs.declared.words.Work.{Work}
 use Rattle.paygo_cli.specs.declared.words.Work.TheVariants as work
 

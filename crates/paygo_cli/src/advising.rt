@@ -12,12 +12,12 @@ ghost use Rattle.ledger_spec.specs.Sorted.{orders_for};
 ghost use Rattle.ledger_spec.specs.Tables.{Tables, row_of};
 ghost use Rattle.run_spec.specs.declared.Status.{Status};
 ghost use Rattle.line_output.specs.Written.{Wrote};
-ghost use Rattle.bench_loop.specs.Runs.{outside, Causes};
+ghost use Rattle.line_loop.specs.Outside.{outside, Causes};
 ghost use Rattle.paygo_cli.specs.Advised.{order_line, text_of_list, WritesAdvice};
 
 use crate::words::Behind;
 use crate::writing::written;
-use bench_run::write_line;
+use line_output::write_line;
 use ledger_keeper::Keeper;
 use ledger_spec::{Answer, KeeperFault, Order, Row};
 use ledger_text::answer_line;

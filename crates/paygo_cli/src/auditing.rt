@@ -10,11 +10,11 @@ ghost use Rattle.run_spec.specs.declared.Status.{Status};
 ghost use Rattle.loan_ledger.specs.Audit.{audited, findings_of};
 ghost use Rattle.loan_ledger.specs.AuditText.{wrong_line, text_of_findings};
 ghost use Rattle.line_output.specs.Written.{Wrote};
-ghost use Rattle.bench_loop.specs.Runs.{outside, Causes};
+ghost use Rattle.line_loop.specs.Outside.{outside, Causes};
 ghost use Rattle.paygo_cli.specs.Ends.{WritesText, written_by};
 
 use crate::writing::written;
-use bench_run::write_line;
+use line_output::write_line;
 use ledger_keeper::Keeper;
 use ledger_spec::{LedgerFault, Name};
 use line_text::Line;

@@ -5,11 +5,11 @@ ghost use Rattle.paygo_spec.specs.Streams.{SourceView};
 ghost use Rattle.run_spec.specs.declared.Status.{Status};
 ghost use Rattle.fleet_spec.specs.Text.{with_size, with_entries, with_totals};
 ghost use Rattle.ledger_spec.specs.Keeper.{KeeperView};
-ghost use Rattle.bench_loop.specs.Runs.{outside, Causes};
+ghost use Rattle.line_loop.specs.Outside.{outside, Causes};
 ghost use Rattle.paygo_cli.specs.Ends.{IsFleet, WritesFleet, written_by};
 
 use crate::writing::written;
-use bench_run::write_line;
+use line_output::write_line;
 use fleet_script::generate;
 use fleet_sim::run_fleet;
 use fleet_spec::Totals;

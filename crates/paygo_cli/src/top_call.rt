@@ -5,7 +5,8 @@ ghost use Rattle.ledger_spec.specs.Tables.{Tables, row_of};
 ghost use Rattle.run_spec.specs.declared.Mode.{Mode as Taken};
 ghost use Rattle.loan_ledger.specs.Audit.{audited};
 ghost use Rattle.loan_ledger.specs.AuditText.{text_of_findings};
-ghost use Rattle.bench_loop.specs.Runs.{outside, Causes, IsCalm, IsLong, Reads, RunsTold, RunsUnseen};
+ghost use Rattle.line_loop.specs.Outside.{outside, Causes, IsCalm, IsLong, Reads};
+ghost use Rattle.bench_loop.specs.Runs.{RunsTold, RunsUnseen};
 ghost use Rattle.deal_runs.specs.Programs.{RunsOn};
 ghost use Rattle.paygo_cli.specs.declared.words.Behind.{Behind};
 ghost use Rattle.paygo_cli.specs.Forms.{work_of};
@@ -17,7 +18,7 @@ use crate::auditing::run_audit;
 use crate::simulating::run_simulation;
 use crate::words::{Work, work_in};
 use ledger_keeper::Keeper;
-use bench_loop::run_lines;
+use bench_loop::run_bench;
 use paygo_ports::{Flash, Sink, Source};
 use run_spec::Status;
 use std::alloc::Global;
@@ -125,7 +126,7 @@ pub fn run<M: Mixer, S: Source, K: Sink, D: Keeper, F: Flash>(
 {
     match work_in(words) {
         Some(Work::Lines(mode)) => {
-            run_lines::<M, S, K, D, F>(alloc, mode, source, sink, keeper, flash)
+            run_bench::<M, S, K, D, F>(alloc, mode, source, sink, keeper, flash)
         }
         Some(Work::Audit) => run_audit::<M, K, D>(alloc, sink, keeper),
         Some(

@@ -1,6 +1,6 @@
 // Words of the command line, and sources and sinks that fail.
 use super::{CALM, DEVICE, Plan, answered};
-use bench_run::{Lines, LinesFault, Next};
+use line_loop::{Lines, LinesFault, Next};
 use ledger_keeper::MemKeeper;
 use memory_ports::{MemFlash, MemSink, MemSource, WatchedSink, WatchedSource};
 use paygo_cli::{Status, run};

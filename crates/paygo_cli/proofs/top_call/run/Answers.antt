@@ -1,6 +1,7 @@
 use Rattle.std.proofs.Common.{◌∙◌, subst}
 use Rattle.run_spec.specs.declared.Mode.{Mode}
-use Rattle.bench_loop.specs.Runs.{outside, RunsTold, RunsUnseen}
+use Rattle.line_loop.specs.Outside.{outside}
+use Rattle.bench_loop.specs.Runs.{RunsTold, RunsUnseen}
 use Rattle.deal_runs.proofs.Chaining.{runs_on}
 use Rattle.paygo_cli.proofs.Ending.{complete, same_mode}
 use Rattle.paygo_cli.proofs.top_call.run.Goals as goal

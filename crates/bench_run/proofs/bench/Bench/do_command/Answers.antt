@@ -14,7 +14,7 @@ returns-in-Ok-clause-works g c = λ flash.
     let now = g.D.Keeper.view c.command.new.keeper in
     let before = g.K.Sink.view c.args.sink.now in
     let after = g.K.Sink.view c.write_answer.new.sink in
-    rw c.told.ensures (subst (λ (d : Device). Works g.M.Mixer.next c.args.mode (Do c.args.command.now ∷ []) (of_line c.write_answer.result) (desk c.args.self.now was flash before) (desk d now flash after)) (sym c.in-Ok.ensures.same)
+    rw c.as_line_fault.ensures (subst (λ (d : Device). Works g.M.Mixer.next c.args.mode (Do c.args.command.now ∷ []) (of_line c.write_answer.result) (desk c.args.self.now was flash before) (desk d now flash after)) (sym c.in-Ok.ensures.same)
     (served g.M.Mixer.next c.args.mode c.args.command.now c.in-Ok.answer c.write_answer.result c.args.self.now was now flash before after
     c.requires.command (uses_ledger c.args.mode c.requires.mode) c.in-Ok.ensures.applied c.write_answer.ensures.wrote))
 

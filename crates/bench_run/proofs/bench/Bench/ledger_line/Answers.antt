@@ -17,7 +17,7 @@ returns-then-eq-clause-works g c = λ flash.
     let after = g.K.Sink.view c.write_text.new.sink in
     let is : c.args.mode ≡ mode.Device = search rules in
     let steps : steps_of_ledger c.args.mode c.args.text.now ≡ Say (codes "no ledger here") ∷ [] = ap (λ m. steps_of_ledger m c.args.text.now) is in
-    rw c.told.ensures (subst (λ (steps : List Step). Works g.M.Mixer.next c.args.mode steps (of_line c.write_text.result) (desk c.args.self.now keeper flash before) (desk c.args.self.now keeper flash after)) (sym steps)
+    rw c.as_line_fault.ensures (subst (λ (steps : List Step). Works g.M.Mixer.next c.args.mode steps (of_line c.write_text.result) (desk c.args.self.now keeper flash before) (desk c.args.self.now keeper flash after)) (sym steps)
     (said g.M.Mixer.next (codes "no ledger here") c.write_text.result before after c.write_text.ensures.wrote c.args.mode c.args.self.now keeper flash))
 
 pub returns-in-Ok-clause-works : goal.returns-in-Ok-clause-works
@@ -36,7 +36,7 @@ returns-else-eq-2-clause-works g c = λ flash.
     let uses : c.args.mode ≢ mode.Device = search rules in
     let text = text_of_fault c.in-Err.fault in
     let steps : steps_of_ledger c.args.mode c.args.text.now ≡ Say text ∷ [] = steps_read c.args.mode c.args.text.now (Err c.in-Err.fault) uses (read_fault c.args.text.now c.in-Err.fault other c.in-Err.ensures.value) in
-    rw c.told-in-Err.ensures (subst (λ (steps : List Step). Works g.M.Mixer.next c.args.mode steps (of_line c.write_fault.result) (desk c.args.self.now keeper flash before) (desk c.args.self.now keeper flash after)) (sym steps)
+    rw c.as_line_fault-in-Err.ensures (subst (λ (steps : List Step). Works g.M.Mixer.next c.args.mode steps (of_line c.write_fault.result) (desk c.args.self.now keeper flash before) (desk c.args.self.now keeper flash after)) (sym steps)
     (said g.M.Mixer.next text c.write_fault.result before after c.write_fault.ensures.wrote c.args.mode c.args.self.now keeper flash))
 
 pub returns-then-eq-2-clause-works : goal.returns-then-eq-2-clause-works

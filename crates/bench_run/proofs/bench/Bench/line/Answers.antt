@@ -28,5 +28,5 @@ returns-clause-works g c =
     let first : get_or c.trimmed-text.result.now 0 0 ≢ 123 = search rules in
     let steps = steps_device c.args.mode c.args.line.now c.trimmed-text.result.now c.requires.most c.trimmed-text.ensures some first in
     let keeper = g.D.Keeper.view c.args.keeper.now in
-    rw c.told.ensures (subst (λ (steps : List Step). Works g.M.Mixer.next c.args.mode steps (of_line c.device_line.result) (desk c.args.self.now keeper (g.F.Flash.view c.args.flash.now) (g.K.Sink.view c.args.sink.now))
+    rw c.as_line_fault.ensures (subst (λ (steps : List Step). Works g.M.Mixer.next c.args.mode steps (of_line c.device_line.result) (desk c.args.self.now keeper (g.F.Flash.view c.args.flash.now) (g.K.Sink.view c.args.sink.now))
     (desk c.device_line.new.self keeper (g.F.Flash.view c.device_line.new.flash) (g.K.Sink.view c.device_line.new.sink))) (sym steps) (c.device_line.ensures.works keeper))
