@@ -8,6 +8,7 @@ mod lines;
 mod output;
 
 pub use bench::{Bench, LineFault};
+pub use device_lines::{Request, request_in, trimmed};
 pub use lines::{LINE_SIZE, Lines, LinesFault, Next};
 pub use output::write_line;
 pub use run_spec::Mode;
