@@ -1,5 +1,5 @@
 -- Lists in which each is kept once, of what the flash stands for, and of the states of a device of which that is known.
-use Rattle.std.proofs.Common.{◌≡◌, ℕ, ◌+◌, ◌<◌, Bool, true, false, ◌==◌, ◌&&◌, List, [], ◌∷◌, ◌++◌, length, map, take, get_or, append-nil, Option, refl, sym, ap, subst, ◌∙◌, ⊎_elim, arith}
+use Rattle.std.proofs.Common.{◌≡◌, ℕ, zero, suc, ◌+◌, ◌<◌, Bool, true, false, ◌==◌, ◌&&◌, List, [], ◌∷◌, ◌++◌, length, map, take, get_or, append-nil, Option, refl, sym, ap, subst, ◌∙◌, ⊎_elim, arith}
 use Rattle.std.specs.List.{filter, flat_map, list_any}
 use Rattle.std.specs.Str.{bytes_eq}
 use Rattle.std.proofs.lemmas.Bool.{cases_Bool}
@@ -17,8 +17,8 @@ use Rattle.log_check.specs.declared.standing.Standing.{Standing}
 use Rattle.log_check.specs.After.{Outcome, Choice, after}
 use Rattle.log_check.specs.Fits.{says, choices, going_on}
 use Rattle.log_check.specs.Same.{same_bool, same_stored, same_keys, same_state, put, put_all}
-use Rattle.log_check.specs.Standing.{stored_of, outcome_of}
-use Rattle.log_check.specs.Keeping.{storeds_of, put_stored, put_storeds, AreOnce, state_as, states_as, outcomes_at, told_by, told_from}
+use Rattle.log_check.specs.Standing.{stored_of, outcome_of, IsStanding}
+use Rattle.log_check.specs.Keeping.{AreStandings, AreForetold, storeds_of, put_stored, put_storeds, AreOnce, state_as, states_as, outcomes_at, told_by, told_from}
 
 pub put_append : (a b c : List Stored) → put_storeds a (b ++ c) ≡ put_storeds (put_storeds a b) c
 put_append a [] c = refl
@@ -31,17 +31,18 @@ told_append text xs ys =
     (filter (λ outcome. says text outcome.reply) ys)
 
 -- one more of what may be answered
-pub gather_more : (text : List ℕ) (start now new : List Stored) (list : List Foreseen) (i : ℕ) (d : Foreseen) → i < length list
+pub gather_more : (text : List ℕ) (start now new : List Stored) (list : List Foreseen) (i : ℕ) (x : Foreseen) → i < length list
+    → x ≡ get_or list i x
     → now ≡ put_storeds start (told_by text (map outcome_of (take i list)))
-    → new ≡ put_storeds now (told_by text (outcome_of (get_or list i d) ∷ []))
+    → new ≡ put_storeds now (told_by text (outcome_of x ∷ []))
     → new ≡ put_storeds start (told_by text (map outcome_of (take (i + 1) list)))
-gather_more text start now new list i d within h k =
-    let x = get_or list i d in
+gather_more text start now new list i x within is h k =
     k ∙ ap (λ l. put_storeds l (told_by text (outcome_of x ∷ []))) h
     ∙ sym (put_append start (told_by text (map outcome_of (take i list))) (told_by text (outcome_of x ∷ [])))
     ∙ ap (put_storeds start) (sym (told_append text (map outcome_of (take i list)) (outcome_of x ∷ [])))
     ∙ ap (λ l. put_storeds start (told_by text l)) (sym (map-append outcome_of (take i list) (x ∷ [])))
-    ∙ ap (λ l. put_storeds start (told_by text (map outcome_of l))) (sym (take_more list i d within))
+    ∙ ap (λ y. put_storeds start (told_by text (map outcome_of (take i list ++ y ∷ [])))) is
+    ∙ ap (λ l. put_storeds start (told_by text (map outcome_of l))) (sym (take_more list i x within))
 
 module _ (next : List ℕ → ℕ → ℕ) (text : List ℕ) (event : Event) (keys : Keys) where
   abbrev behind : Stored → List Stored
@@ -53,22 +54,24 @@ module _ (next : List ℕ → ℕ → ℕ) (text : List ℕ) (event : Event) (ke
       ∙ ap (λ (l : List Stored). flat_map behind xs ++ l) (append-nil (behind y))
 
   -- one more of the standings
-  pub goes_more : (now new : List Stored) (list : List Standing) (i : ℕ) (d : Standing) → i < length list
+  pub goes_more : (now new : List Stored) (list : List Standing) (i : ℕ) (x : Standing) → i < length list
+      → x ≡ get_or list i x
       → now ≡ put_storeds [] (told_from next text event keys (storeds_of (take i list)))
-      → new ≡ put_storeds now (behind (stored_of (get_or list i d)))
+      → new ≡ put_storeds now (behind (stored_of x))
       → new ≡ put_storeds [] (told_from next text event keys (storeds_of (take (i + 1) list)))
-  goes_more now new list i d within h k =
-      let y = stored_of (get_or list i d) in
+  goes_more now new list i x within is h k =
+      let y = stored_of x in
       k ∙ ap (λ l. put_storeds l (behind y)) h
       ∙ sym (put_append [] (told_from next text event keys (storeds_of (take i list))) (behind y))
       ∙ ap (put_storeds []) (sym (told_one (storeds_of (take i list)) y))
-      ∙ ap (λ l. put_storeds [] (told_from next text event keys l)) (sym (map-append stored_of (take i list) (get_or list i d ∷ [])))
-      ∙ ap (λ l. put_storeds [] (told_from next text event keys (storeds_of l))) (sym (take_more list i d within))
+      ∙ ap (λ l. put_storeds [] (told_from next text event keys l)) (sym (map-append stored_of (take i list) (x ∷ [])))
+      ∙ ap (λ z. put_storeds [] (told_from next text event keys (storeds_of (take i list ++ z ∷ [])))) is
+      ∙ ap (λ l. put_storeds [] (told_from next text event keys (storeds_of l))) (sym (take_more list i x within))
 
-put_old : (list : List Stored) (y : Stored) → list_any (same_stored y) list ≡ true → put_stored list y ≡ list
+pub put_old : (list : List Stored) (y : Stored) → list_any (same_stored y) list ≡ true → put_stored list y ≡ list
 put_old list y t = rw t refl
 
-put_new : (list : List Stored) (y : Stored) → list_any (same_stored y) list ≡ false → put_stored list y ≡ list ++ y ∷ []
+pub put_new : (list : List Stored) (y : Stored) → list_any (same_stored y) list ≡ false → put_stored list y ≡ list ++ y ∷ []
 put_new list y t = rw t refl
 
 once_put : (list : List Stored) (y : Stored) → AreOnce list → AreOnce (put_stored list y)
@@ -164,3 +167,32 @@ pub goes_as : (next : List ℕ → ℕ → ℕ) (test : Option Reply → Bool) (
 goes_as next test event old on keys faults to P goes storeds each =
     ap (put_all []) (passing_from next test event old (state_as on keys faults) to P goes storeds each)
     ∙ put_all_as on keys faults [] (flat_map to storeds)
+
+any_map : {A B : Type 0} (f : A → B) (p : B → Bool) (xs : List A) → list_any p (map f xs) ≡ list_any (λ x. p (f x)) xs
+any_map f p [] = refl
+any_map f p (x ∷ xs) =
+    ⊎_elim
+    (λ (t : p (f x) ≡ true). rw t refl)
+    (λ (t : p (f x) ≡ false). rw t (any_map f p xs))
+    (cases_Bool (p (f x)))
+
+-- whether one is among the standings is whether what it stands for is
+pub among_is : (standings : List Standing) (standing : Standing) (b : Bool)
+    → list_any (λ other. same_stored (stored_of standing) (stored_of other)) standings ≡ b
+    → list_any (same_stored (stored_of standing)) (storeds_of standings) ≡ b
+among_is standings standing b h = any_map stored_of (same_stored (stored_of standing)) standings ∙ h
+
+-- the range of a list of standings
+pub standings_more : (xs : List Standing) (y : Standing) → AreStandings xs → IsStanding y → AreStandings (xs ++ y ∷ [])
+standings_more [] y h k = (k, tt)
+standings_more (x ∷ xs) y h k = (h.0, standings_more xs y h.1 k)
+
+pub standing_at : (xs : List Standing) (i : ℕ) (d : Standing) → i < length xs → AreStandings xs → IsStanding (get_or xs i d)
+standing_at [] i d within are = absurd (omega (arith, within))
+standing_at (x ∷ xs) zero d within are = are.0
+standing_at (x ∷ xs) (suc i) d within are = standing_at xs i d (omega (arith, within)) are.1
+
+pub foretold_at : (xs : List Foreseen) (i : ℕ) (d : Foreseen) → i < length xs → AreForetold xs → IsStanding (get_or xs i d).standing
+foretold_at [] i d within are = absurd (omega (arith, within))
+foretold_at (x ∷ xs) zero d within are = are.0
+foretold_at (x ∷ xs) (suc i) d within are = foretold_at xs i d (omega (arith, within)) are.1

@@ -18,3 +18,6 @@ pub mod Stepping
 pub mod Gathering
 pub mod MadeKinds
 pub mod Going
+pub mod Stating
+pub mod Settling
+pub mod Answering

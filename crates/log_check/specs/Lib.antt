@@ -6,3 +6,11 @@ pub mod Verdicts
 pub mod Standing
 pub mod Keeping
 pub mod Checking
+pub mod KeptOnce
+pub mod Kept
+pub mod Sure
+pub mod SureTables
+pub mod Waiting
+pub mod WaitingOnce
+pub mod FitKept
+pub mod Holding

@@ -1,10 +1,20 @@
 //! Whether a log is one of a run of shop and device.
 #![tactic(auto)]
 
+mod behind;
+mod check;
+mod fit;
 mod laws;
 mod outcomes;
+mod progress;
+mod same;
+mod serving;
 mod standing;
+mod states;
+mod sure_keeper;
+mod waiting;
 
+pub use check::Check;
 pub use laws::{
     checks_give_verdicts, choices_are_allowed, fits_are_exact, logs_are_runs, logs_fit, verdicts_mean,
 };

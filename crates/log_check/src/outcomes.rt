@@ -8,6 +8,7 @@ ghost use Rattle.log_check.specs.After.{adding as adding_of, raising as raising_
 ghost use Rattle.device_core.specs.Decided.{MayDo};
 ghost use Rattle.log_check.specs.Fits.{says as says_of};
 ghost use Rattle.log_check.specs.declared.standing.Standing.TheVariants.{Made as MadeStanding};
+ghost use Rattle.log_check.specs.Keeping.{AreForetold};
 ghost use Rattle.log_check.specs.Standing.{history_of, journal_of, stored_of, outcome_of, by_decision, IsMade, IsStanding};
 
 use crate::standing::{Made, Standing};
@@ -44,7 +45,9 @@ fn of_made(reply: Reply, made: &Made) -> Foreseen
 
 // These outcomes.
 fn listed(alloc: Global, outcomes: &[Foreseen]) -> Result<Vec<Foreseen>, Memory>
-    ensures { IfOk result (λ list. list.items ≡ outcomes.now) }
+    requires { AreForetold outcomes.now }
+    ensures same { IfOk result (λ list. list.items ≡ outcomes.now) }
+    ensures range { IfOk result (λ list. AreForetold list.items) }
 {
     match Vec::from_slice(alloc, outcomes) {
         Ok(list) => Ok(list),
@@ -56,7 +59,8 @@ fn listed(alloc: Global, outcomes: &[Foreseen]) -> Result<Vec<Foreseen>, Memory>
 fn adding(alloc: Global, made: &Made, entry: Entry) -> Result<Vec<Foreseen>, Memory>
     requires range { IsMade made.now }
     requires follows { follows (summary_of made.now.summary) entry ≡ true }
-    ensures { IfOk result (λ list. map outcome_of list.items ≡ adding_of (history_of made.now) entry) }
+    ensures outcomes { IfOk result (λ list. map outcome_of list.items ≡ adding_of (history_of made.now) entry) }
+    ensures range { IfOk result (λ list. AreForetold list.items) }
 {
     if made.journal().room() == 0 {
         return listed(alloc, &[foresee(Some(Reply::Worn), Standing::Made(*made))]);
@@ -79,7 +83,8 @@ fn adding(alloc: Global, made: &Made, entry: Entry) -> Result<Vec<Foreseen>, Mem
 // A device is raised.
 fn raising(alloc: Global, made: &Made) -> Result<Vec<Foreseen>, Memory>
     requires range { IsMade made.now }
-    ensures { IfOk result (λ list. map outcome_of list.items ≡ raising_of (history_of made.now)) }
+    ensures outcomes { IfOk result (λ list. map outcome_of list.items ≡ raising_of (history_of made.now)) }
+    ensures range { IfOk result (λ list. AreForetold list.items) }
 {
     if made.number == 100_000 {
         return listed(alloc, &[foresee(Some(Reply::Worn), Standing::Made(*made))]);
@@ -94,7 +99,8 @@ fn raising(alloc: Global, made: &Made) -> Result<Vec<Foreseen>, Memory>
 // A device is made.
 fn making(alloc: Global, config: &Config) -> Result<Vec<Foreseen>, Memory>
     requires { IsConfig config.now }
-    ensures { IfOk result (λ list. map outcome_of list.items ≡ making_of config.now) }
+    ensures outcomes { IfOk result (λ list. map outcome_of list.items ≡ making_of config.now) }
+    ensures range { IfOk result (λ list. AreForetold list.items) }
 {
     let made = Made::new(config);
     let up = Reply::Up {
@@ -123,7 +129,8 @@ fn only(event: Event, reply: Reply) -> Option<Reply>
 fn decided(alloc: Global, made: &Made, decision: Option<Decision>) -> Result<Vec<Foreseen>, Memory>
     requires range { IsMade made.now }
     requires may { IfSome decision (MayDo (journal_of made.now)) }
-    ensures { IfOk result (λ list. map outcome_of list.items ≡ by_decision (history_of made.now) decision) }
+    ensures outcomes { IfOk result (λ list. map outcome_of list.items ≡ by_decision (history_of made.now) decision) }
+    ensures range { IfOk result (λ list. AreForetold list.items) }
 {
     match decision {
         None => listed(alloc, &[foresee(None, Standing::Made(*made))]),
@@ -145,9 +152,10 @@ fn made_outcomes<M: Mixer>(
 ) -> Result<Vec<Foreseen>, Memory>
     requires range { IsMade made.now }
     requires event { IsEvent event }
-    ensures { (keys : Keys) → pad ≡ kept_of keys →
+    ensures outcomes { (keys : Keys) → pad ≡ kept_of keys →
         IfOk result (λ list. map outcome_of list.items ≡
         outcomes_of M.next (JournalOf (history_of made.now)) keys event) }
+    ensures range { IfOk result (λ list. AreForetold list.items) }
 {
     let journal = made.journal();
     let mut pad = pad;
@@ -165,8 +173,9 @@ pub(crate) fn outcomes<M: Mixer>(
 ) -> Result<Vec<Foreseen>, Memory>
     requires range { IsStanding standing.now }
     requires event { IsEvent event }
-    ensures { (keys : Keys) → pad ≡ kept_of keys →
+    ensures outcomes { (keys : Keys) → pad ≡ kept_of keys →
         IfOk result (λ list. map outcome_of list.items ≡ outcomes_of M.next (stored_of standing.now) keys event) }
+    ensures range { IfOk result (λ list. AreForetold list.items) }
 {
     match standing {
         Standing::Blank => match event {
@@ -200,7 +209,9 @@ fn powered(standing: &Standing) -> Reply
 
 // What may be answered when the power comes.
 fn powering(alloc: Global, standing: &Standing) -> Result<Vec<Foreseen>, Memory>
-    ensures { IfOk result (λ list. map outcome_of list.items ≡ powering_of (stored_of standing.now)) }
+    requires { IsStanding standing.now }
+    ensures outcomes { IfOk result (λ list. map outcome_of list.items ≡ powering_of (stored_of standing.now)) }
+    ensures range { IfOk result (λ list. AreForetold list.items) }
 {
     let up = foresee(Some(powered(standing)), *standing);
     let down = foresee(Some(Reply::Down), *standing);
@@ -221,6 +232,7 @@ pub fn foretell<M: Mixer>(
         IfOk result (λ list. map outcome_of list.items ≡ powering_of (stored_of standing.now)) }
     ensures other { (keys : Keys) → pad ≡ kept_of keys → event ≢ Event.Power →
         IfOk result (λ list. map outcome_of list.items ≡ outcomes_of M.next (stored_of standing.now) keys event) }
+    ensures range { IfOk result (λ list. AreForetold list.items) }
 {
     match event {
         Event::Power => powering(alloc, standing),
