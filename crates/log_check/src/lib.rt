@@ -34,3 +34,6 @@ pub enum Verdict {
     /// This line is longer than 4,096 bytes, or has neither mark.
     Unread { line: u64 },
 }
+
+#[cfg(test)]
+mod tests;
