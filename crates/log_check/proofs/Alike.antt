@@ -1,5 +1,5 @@
--- Two runs over the same steps whose answers have the same texts so far are alike: as many steps were answered, and the device
--- is on in both or in neither.
+-- Two runs over the same steps whose answers have the same texts so far are alike: as many steps were answered, and the
+-- device is on in both or in neither.
 use Rattle.std.proofs.Common.{◌≡◌, ℕ, Bool, true, false, ◌==◌, ◌&&◌, List, [], ◌∷◌, ◌++◌, get_or, drop, append_assoc, Option, Some, None, refl, sym, ap, ◌∙◌, inl, inr, ◌⊎◌, ⊎_elim, arith}
 use Rattle.std.specs.Prelude.{is_some, codes}
 use Rattle.std.proofs.lemmas.Bool.Decides.{nat_tests}
@@ -66,7 +66,8 @@ pub same_text_on : (a b : Reply) (on : Bool) → text_of a ≡ text_of b → on_
 same_text_on a b on e =
     ⊎_elim (λ (d : text_of a ≡ codes "down"). down_text a on d ∙ sym (down_text b on (sym e ∙ d)))
     (λ (u : (on : Bool) → on_after (Some a) on ≡ true).
-    ⊎_elim (λ (d : text_of b ≡ codes "down"). down_text a on (e ∙ d) ∙ sym (down_text b on d)) (λ (v : (on : Bool) → on_after (Some b) on ≡ true). u on ∙ sym (v on)) (either b))
+    ⊎_elim (λ (d : text_of b ≡ codes "down"). down_text a on (e ∙ d) ∙ sym (down_text b on d))
+    (λ (v : (on : Bool) → on_after (Some b) on ≡ true). u on ∙ sym (v on)) (either b))
     (either a)
 
 pub has_reply_on : (event : Event) (a b : State) → a.on ≡ b.on → has_reply event a ≡ has_reply event b
@@ -89,12 +90,14 @@ pub record Alike (x y : Option Answer) (u v : List (List ℕ)) (a b : World) : T
   pub rest_same : u ≡ v
   pub on_same : a.device.on ≡ b.device.on
 
-told_alike : (event : Event) (x y : Option Reply) (old old' new new' : State) → old.on ≡ old'.on → Answering event x old new → Answering event y old' new'
+told_alike : (event : Event) (x y : Option Reply) (old old' new new' : State) → old.on ≡ old'.on
+    → Answering event x old new → Answering event y old' new'
     → is_some x ≡ is_some y
 told_alike event x y old old' new new' same h k = h.0 ∙ has_reply_on event old old' same ∙ sym k.0
 
 module _ (next : List ℕ → ℕ → ℕ) (u v : List (List ℕ)) (a b m n : World) (same : a.device.on ≡ b.device.on) where
-  step_alike : (step : Step) (x y : Option Answer) → MayAnswer next step x a m → MayAnswer next step y b n → texts_of x ++ u ≡ texts_of y ++ v → Alike x y u v m n
+  step_alike : (step : Step) (x y : Option Answer) → MayAnswer next step x a m → MayAnswer next step y b n
+      → texts_of x ++ u ≡ texts_of y ++ v → Alike x y u v m n
   step_alike (Say text) (Some (Said s)) (Some (Said t)) h k e = record {
     texts_same = ap (λ (l : List ℕ). l ∷ []) (h.0 ∙ sym k.0);
     rest_same = tails s t u v e;
@@ -108,7 +111,8 @@ module _ (next : List ℕ → ℕ → ℕ) (u v : List (List ℕ)) (a b m n : Wo
   step_alike (Act event) None None h k e = record {
     texts_same = refl;
     rest_same = e;
-    on_same = (acts_answering next event None a.device m.device h.0.1).1 ∙ same ∙ sym (acts_answering next event None b.device n.device k.0.1).1;
+    on_same = (acts_answering next event None a.device m.device h.0.1).1 ∙ same
+        ∙ sym (acts_answering next event None b.device n.device k.0.1).1;
   }
   step_alike (Act event) (Some (Told s)) (Some (Told t)) h k e = record {
     texts_same = ap (λ (l : List ℕ). l ∷ []) (heads (text_of s) (text_of t) u v e);
@@ -120,9 +124,13 @@ module _ (next : List ℕ → ℕ → ℕ) (u v : List (List ℕ)) (a b m n : Wo
         ∙ sym (acts_answering next event (Some t) b.device n.device k.0.1).1;
   }
   step_alike (Act event) None (Some (Told t)) h k e =
-      let q : false ≡ true = told_alike event None (Some t) a.device b.device m.device n.device same (acts_answering next event None a.device m.device h.0.1) (acts_answering next event (Some t) b.device n.device k.0.1) in absurd cc
+      let q : false ≡ true = told_alike event None (Some t) a.device b.device m.device n.device same
+      (acts_answering next event None a.device m.device h.0.1)
+      (acts_answering next event (Some t) b.device n.device k.0.1) in absurd cc
   step_alike (Act event) (Some (Told s)) None h k e =
-      let q : true ≡ false = told_alike event (Some s) None a.device b.device m.device n.device same (acts_answering next event (Some s) a.device m.device h.0.1) (acts_answering next event None b.device n.device k.0.1) in absurd cc
+      let q : true ≡ false = told_alike event (Some s) None a.device b.device m.device n.device same
+      (acts_answering next event (Some s) a.device m.device h.0.1)
+      (acts_answering next event None b.device n.device k.0.1) in absurd cc
   step_alike (Say text) (Some (Said s)) y h k e = absurd k
   step_alike (Do command) (Some (Did s)) y h k e = absurd k
   step_alike (Act event) None y h k e = absurd k
@@ -130,16 +138,24 @@ module _ (next : List ℕ → ℕ → ℕ) (u v : List (List ℕ)) (a b m n : Wo
   step_alike step x y h k e = absurd h
 
 -- what is told by answers, joined with what is told behind them
-texts_more : (x : Option Answer) (answers : List (Option Answer)) (u : List (List ℕ)) → texts (x ∷ answers) ++ u ≡ texts_of x ++ (texts answers ++ u)
+texts_more : (x : Option Answer) (answers : List (Option Answer)) (u : List (List ℕ))
+    → texts (x ∷ answers) ++ u ≡ texts_of x ++ (texts answers ++ u)
 texts_more x answers u = append_assoc (texts_of x) (texts answers) u
 
-pub runs_alike : (next : List ℕ → ℕ → ℕ) (steps : List Step) (xs ys : List (Option Answer)) (u v : List (List ℕ)) (a b m n : World) → a.device.on ≡ b.device.on
-    → Run next a steps xs m → Run next b steps ys n → texts xs ++ u ≡ texts ys ++ v → (texts xs ≡ texts ys) × (m.device.on ≡ n.device.on)
-runs_alike next [] [] [] u v a b m n same h k e = (refl, ap (λ (w : World). w.device.on) h ∙ same ∙ sym (ap (λ (w : World). w.device.on) k))
+pub runs_alike : (next : List ℕ → ℕ → ℕ) (steps : List Step) (xs ys : List (Option Answer)) (u v : List (List ℕ))
+    (a b m n : World) → a.device.on ≡ b.device.on
+    → Run next a steps xs m → Run next b steps ys n → texts xs ++ u ≡ texts ys ++ v → (texts xs ≡ texts ys)
+    × (m.device.on ≡ n.device.on)
+runs_alike next [] [] [] u v a b m n same h k e =
+    (refl, ap (λ (w : World). w.device.on) h ∙ same ∙ sym (ap (λ (w : World). w.device.on) k))
 runs_alike next (step ∷ steps) (x ∷ xs) (y ∷ ys) u v a b m n same h k e =
-    let one = step_alike next (texts xs ++ u) (texts ys ++ v) a b h.0 k.0 same step x y h.1 k.1 (sym (texts_more x xs u) ∙ e ∙ texts_more y ys v) in
-    let rest = runs_alike next steps xs ys u v h.0 k.0 m n one.on_same h.2 k.2 one.rest_same in
-    (ap (λ (l : List (List ℕ)). l ++ texts xs) one.texts_same ∙ ap (λ (l : List (List ℕ)). texts_of y ++ l) rest.0, rest.1)
+    let one = step_alike next (texts xs ++ u) (texts ys ++ v) a b h.0 k.0 same step x y h.1 k.1 (sym (texts_more x xs u)
+    ∙ e ∙ texts_more y ys v) in
+    let rest = runs_alike next steps xs ys u v h.0 k.0 m n one.on_same h.2 k.2 one.rest_same in (
+      ap (λ (l : List (List ℕ)). l ++ texts xs) one.texts_same
+          ∙ ap (λ (l : List (List ℕ)). texts_of y ++ l) rest.0,
+      rest.1,
+    )
 runs_alike next [] (x ∷ xs) ys u v a b m n same h k e = absurd h
 runs_alike next [] [] (y ∷ ys) u v a b m n same h k e = absurd k
 runs_alike next (step ∷ steps) [] ys u v a b m n same h k e = absurd h

@@ -23,9 +23,11 @@ module _ (next : List ℕ → ℕ → ℕ) (text : List ℕ) (before mid new : F
   Takes = (now : Fit) → Stands mid now → IsFit new (settled next (drop 1 now.waiting) now.tables now.states)
 
   -- the check stands for these tables and states, with the same steps that wait
-  stands_with : (tables : Tables) (states : List State) → Stands before old → steps_of mid.waiting ≡ steps_of before.waiting
+  stands_with : (tables : Tables) (states : List State) → Stands before old
+      → steps_of mid.waiting ≡ steps_of before.waiting
       → tables_of mid.keeper ≡ tables → AreStates mid.states states → Stands mid (fit old.waiting tables states)
-  stands_with tables states stands same is are = record { tables_are = is; waiting_are = same ∙ stands.waiting_are; states_are = are }
+  stands_with tables states stands same is are = record
+      { tables_are = is; waiting_are = same ∙ stands.waiting_are; states_are = are }
 
   -- an answer to these steps is what fits then
   abbrev Fits : List Step → Type 0
@@ -33,38 +35,52 @@ module _ (next : List ℕ → ℕ → ℕ) (text : List ℕ) (before mid new : F
 
   pub acted_fits : (event : Event) (steps : List Step) → IsFit before old → old.waiting ≡ Act event ∷ steps
       → steps_of mid.waiting ≡ steps_of before.waiting → tables_of mid.keeper ≡ tables_of before.keeper
-      → (AreStates before.states old.states → is_silent event old.states ≡ false → AreStates mid.states (going_on next (says text) event old.states))
+      → (AreStates before.states old.states → is_silent event old.states ≡ false
+      → AreStates mid.states (going_on next (says text) event old.states))
       → Takes → Fits old.waiting
   acted_fits event steps is waits same tables goes takes =
-      let answered : is_silent event old.states ≡ false = subst (λ (l : List Step). IsSettled l old.states) waits is.is_settled in
+      let answered : is_silent event old.states ≡ false = subst (λ (l : List Step). IsSettled l old.states) waits
+      is.is_settled in
       let states = going_on next (says text) event old.states in
-      let stands = stands_with old.tables states is.stands same (tables ∙ is.stands.tables_are) (goes is.stands.states_are answered) in
+      let stands = stands_with old.tables states is.stands same (tables ∙ is.stands.tables_are)
+      (goes is.stands.states_are answered) in
       let taken = takes (fit old.waiting old.tables states) stands in
-      subst Fits (sym waits) (subst (λ (l : List Step). IsFit new (settled next (drop 1 l) old.tables states)) waits taken)
+      subst Fits (sym waits) (subst (λ (l : List Step). IsFit new (settled next (drop 1 l) old.tables states)) waits
+      taken)
 
-  said_with : (said : List ℕ) (fits : Bool) → fits ≡ bytes_eq said text → AreStates mid.states (if fits then old.states else [])
+  said_with : (said : List ℕ) (fits : Bool) → fits ≡ bytes_eq said text
+      → AreStates mid.states (if fits then old.states else [])
       → AreStates mid.states (if_says said text old.states)
   said_with said fits e are = subst (λ (b : Bool). AreStates mid.states (if b then old.states else [])) e are
 
-  pub said_fits : (said : List ℕ) (fits : Bool) → Stands before old → old.waiting ≡ Say said ∷ [] → fits ≡ bytes_eq said text
+  pub said_fits : (said : List ℕ) (fits : Bool) → Stands before old → old.waiting ≡ Say said ∷ []
+      → fits ≡ bytes_eq said text
       → steps_of mid.waiting ≡ steps_of before.waiting → tables_of mid.keeper ≡ tables_of before.keeper
-      → (AreStates before.states old.states → AreStates mid.states (if fits then old.states else [])) → Takes → Fits old.waiting
+      → (AreStates before.states old.states → AreStates mid.states (if fits then old.states else [])) → Takes
+      → Fits old.waiting
   said_fits said fits stood waits e same tables keeps takes =
       let states = if_says said text old.states in
-      let stands = stands_with old.tables states stood same (tables ∙ stood.tables_are) (said_with said fits e (keeps stood.states_are)) in
+      let stands = stands_with old.tables states stood same (tables ∙ stood.tables_are)
+      (said_with said fits e (keeps stood.states_are)) in
       let taken = takes (fit old.waiting old.tables states) stands in
-      subst Fits (sym waits) (subst (λ (l : List Step). IsFit new (settled next (drop 1 l) old.tables states)) waits taken)
+      subst Fits (sym waits) (subst (λ (l : List Step). IsFit new (settled next (drop 1 l) old.tables states)) waits
+      taken)
 
   pub did_fits : (command : Command) (answer : Answer) (fits : Bool) → IsFit before old → old.waiting ≡ Do command ∷ []
-      → answer ≡ (done next (tables_of before.keeper) command).answer → tables_of mid.keeper ≡ (done next (tables_of before.keeper) command).tables
+      → answer ≡ (done next (tables_of before.keeper) command).answer
+      → tables_of mid.keeper ≡ (done next (tables_of before.keeper) command).tables
       → fits ≡ bytes_eq (text_of_answer answer) text → steps_of mid.waiting ≡ steps_of before.waiting
-      → (AreStates before.states old.states → AreStates mid.states (if fits then old.states else [])) → Takes → Fits old.waiting
+      → (AreStates before.states old.states → AreStates mid.states (if fits then old.states else [])) → Takes
+      → Fits old.waiting
   did_fits command answer fits is waits answers tables e same keeps takes =
       let did = done next old.tables command in
-      let was : done next (tables_of before.keeper) command ≡ did = ap (λ (t : Tables). done next t command) is.stands.tables_are in
+      let was : done next (tables_of before.keeper) command ≡ did = ap (λ (t : Tables). done next t command)
+      is.stands.tables_are in
       let says_so : answer ≡ did.answer = answers ∙ ap (λ (d : Done). d.answer) was in
       let states = if_says (text_of_answer did.answer) text old.states in
       let stands = stands_with did.tables states is.stands same (tables ∙ ap (λ (d : Done). d.tables) was)
-          (said_with (text_of_answer did.answer) fits (e ∙ ap (λ (a : Answer). bytes_eq (text_of_answer a) text) says_so) (keeps is.stands.states_are)) in
+      (said_with (text_of_answer did.answer) fits (e ∙ ap (λ (a : Answer). bytes_eq (text_of_answer a) text) says_so)
+      (keeps is.stands.states_are)) in
       let taken = takes (fit old.waiting did.tables states) stands in
-      subst Fits (sym waits) (subst (λ (l : List Step). IsFit new (settled next (drop 1 l) did.tables states)) waits taken)
+      subst Fits (sym waits) (subst (λ (l : List Step). IsFit new (settled next (drop 1 l) did.tables states)) waits
+      taken)

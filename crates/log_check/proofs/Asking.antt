@@ -28,11 +28,13 @@ use Rattle.run_spec.specs.Meaning.{trimmed, step_of_reading, steps_of_device, st
 use Rattle.run_spec.specs.Run.{Say, Act}
 use Rattle.log_check.proofs.Fitting.{AreSteps}
 
-some_if : {A B : Type 0} (P : A → Type 0) (Q : B → Type 0) (f : A → Option B) (o : Option A) → IfSome o P → ((a : A) → P a → IfSome (f a) Q) → IfSome (option_and_then f o) Q
+some_if : {A B : Type 0} (P : A → Type 0) (Q : B → Type 0) (f : A → Option B) (o : Option A) → IfSome o P
+    → ((a : A) → P a → IfSome (f a) Q) → IfSome (option_and_then f o) Q
 some_if P Q f None h k = tt
 some_if P Q f (Some a) h k = k a h
 
-map_if : {A B : Type 0} (Q : B → Type 0) (f : A → B) (o : Option A) → IfSome o (λ a. Q (f a)) → IfSome (option_map f o) Q
+map_if : {A B : Type 0} (Q : B → Type 0) (f : A → B) (o : Option A) → IfSome o (λ a. Q (f a))
+    → IfSome (option_map f o) Q
 map_if Q f None h = tt
 map_if Q f (Some a) h = h
 
@@ -65,8 +67,10 @@ module _ where
   digits_below (c ∷ cs) n b l =
       ⊎_elim
       (λ (t : is_decimal c ≡ true).
-      let same : b * 10 * 10 ^ length cs ≡ b * 10 ^ suc (length cs) = mul_assoc b 10 (10 ^ length cs) ∙ ap (λ (k : ℕ). b * k) (sym (pow-succ' 10 (length cs))) in
-      rw t (subst (λ (k : ℕ). IfSome (digits_from (n * 10 + (c - 48)) cs) (λ x. x < k)) same (digits_below cs (n * 10 + (c - 48)) (b * 10) (digit_below n c b l t))))
+      let same : b * 10 * 10 ^ length cs ≡ b * 10 ^ suc (length cs) = mul_assoc b 10 (10 ^ length cs)
+      ∙ ap (λ (k : ℕ). b * k) (sym (pow-succ' 10 (length cs))) in
+      rw t (subst (λ (k : ℕ). IfSome (digits_from (n * 10 + (c - 48)) cs) (λ x. x < k)) same
+      (digits_below cs (n * 10 + (c - 48)) (b * 10) (digit_below n c b l t))))
       (λ (t : is_decimal c ≡ false). rw t tt)
       (cases_Bool (is_decimal c))
 
@@ -81,19 +85,26 @@ nine_below : (word : List ℕ) → IfSome (decimal_in 9 word) (λ n. n < 10 ^ 9)
 nine_below word =
     ⊎_elim
     (λ (t : (nat_le 1 (length word) && nat_le (length word) 9) ≡ true).
-    let most : length word ≤ 9 = le_is (length word) 9 (and_parts (nat_le 1 (length word)) (nat_le (length word) 9) t).1 in
+    let most : length word ≤ 9 = le_is (length word) 9
+    (and_parts (nat_le 1 (length word)) (nat_le (length word) 9) t).1 in
     let up : 10 ^ length word ≤ 10 ^ 9 = power_up (length word) most in
-    rw t (weaker (λ x. x < 1 * 10 ^ length word) (λ x. x < 10 ^ 9) (digits_from 0 word) (λ x l. omega (arith, up)) (digits_below word 0 1 (omega arith))))
+    rw t (weaker (λ x. x < 1 * 10 ^ length word) (λ x. x < 10 ^ 9) (digits_from 0 word) (λ x l. omega (arith, up))
+    (digits_below word 0 1 (omega arith))))
     (λ (t : (nat_le 1 (length word) && nat_le (length word) 9) ≡ false). rw t tt)
     (cases_Bool (nat_le 1 (length word) && nat_le (length word) 9))
 
 divider_good : (word : List ℕ) → IfSome (divider_in word) (λ n. divides_day n ≡ true)
-divider_good word = some_if (λ n. Unit {0}) (λ n. divides_day n ≡ true) (λ n. if divides_day n then Some n else None) (decimal_in 3 word) (any (decimal_in 3 word)) (λ n u. test_if (λ n. divides_day n ≡ true) (divides_day n) n (λ e. e))
+divider_good word = some_if (λ n. Unit {0}) (λ n. divides_day n ≡ true) (λ n. if divides_day n then Some n else None)
+    (decimal_in 3 word) (any (decimal_in 3 word))
+    (λ n u. test_if (λ n. divides_day n ≡ true) (divides_day n) n (λ e. e))
 
-field_if : {A B : Type 0} (P : A → Type 0) (Q : B → Type 0) (read : List ℕ → Option A) (text : List ℕ) (next : A → List ℕ → Option B) → ((word : List ℕ) → IfSome (read word) P) → ((a : A) (rest : List ℕ) → P a → IfSome (next a rest) Q)
+field_if : {A B : Type 0} (P : A → Type 0) (Q : B → Type 0) (read : List ℕ → Option A) (text : List ℕ) (next : A
+    → List ℕ → Option B) → ((word : List ℕ) → IfSome (read word) P)
+    → ((a : A) (rest : List ℕ) → P a → IfSome (next a rest) Q)
     → IfSome (field read text next) Q
 field_if P Q read text next reads goes =
-    some_if (λ p. Unit {0}) Q (λ parts. option_and_then (λ value. next value parts.1) (read parts.0)) (first_word text) (any (first_word text))
+    some_if (λ p. Unit {0}) Q (λ parts. option_and_then (λ value. next value parts.1) (read parts.0)) (first_word text)
+    (any (first_word text))
     (λ parts u. some_if P Q (λ value. next value parts.1) (read parts.0) (reads parts.0) (λ a p. goes a parts.1 p))
 
 config_good : (text : List ℕ) → IfSome (config_in text) IsConfig
@@ -101,7 +112,8 @@ config_good text =
     field_if (λ key. Unit {0}) IsConfig key_in text _ (λ word. any (key_in word)) (λ key after_key u.
     field_if (λ n. n < 10 ^ 9) IsConfig (decimal_in 9) after_key _ nine_below (λ start after_start s.
     field_if (λ n. divides_day n ≡ true) IsConfig divider_in after_start _ divider_good (λ divider last d.
-    map_if IsConfig (λ form. record { key = key; start = start; divider = divider; form = form }) (form_in last) (weaker (λ f. Unit {0}) _ (form_in last) (λ f u. record { start = s; divider = d }) (any (form_in last))))))
+    map_if IsConfig (λ form. record { key = key; start = start; divider = divider; form = form }) (form_in last)
+    (weaker (λ f. Unit {0}) _ (form_in last) (λ f u. record { start = s; divider = d }) (any (form_in last))))))
 
 -- Each of these events may be asked for.
 abbrev AreEvents : List Event → Type 0
@@ -111,10 +123,12 @@ AreEvents (event ∷ events) = IsEvent event × AreEvents events
 key_is : (c : ℕ) → is_space c ≡ false → is_key_text c ≡ true → IsKey c
 key_is c spaced text =
     let q : (is_decimal c || (c == 42 || c == 35)) ≡ true = rw spaced at text in
-    ⊎_elim (λ (t : is_decimal c ≡ true). let d = and_parts (nat_le 48 c) (nat_le c 57) t in inl (le_is 48 c d.0, le_is c 57 d.1))
+    ⊎_elim (λ (t : is_decimal c ≡ true). let d = and_parts (nat_le 48 c) (nat_le c 57) t in inl
+    (le_is 48 c d.0, le_is c 57 d.1))
     (λ (t : is_decimal c ≡ false). let r : (c == 42 || c == 35) ≡ true = rw t at q in
     ⊎_elim (λ (u : (c == 42) ≡ true). let e : c ≡ 42 = grind (arith, nat_tests) in inr (inl e))
-    (λ (u : (c == 42) ≡ false). let v : (c == 35) ≡ true = rw u at r in let e : c ≡ 35 = grind (arith, nat_tests) in inr (inr e))
+    (λ (u : (c == 42) ≡ false). let v : (c == 35) ≡ true = rw u at r in let e : c ≡ 35 = grind (arith, nat_tests) in inr
+    (inr e))
     (cases_Bool (c == 42)))
     (cases_Bool (is_decimal c))
 
@@ -122,7 +136,8 @@ presses_good : (text : List ℕ) → are_key_text text ≡ true → AreEvents (p
 presses_good [] h = tt
 presses_good (c ∷ cs) h =
     let p = and_parts (is_key_text c) (are_key_text cs) h in
-    ⊎_elim (λ (t : is_space c ≡ true). rw t (presses_good cs p.1)) (λ (t : is_space c ≡ false). rw t (key_is c t p.0, presses_good cs p.1)) (cases_Bool (is_space c))
+    ⊎_elim (λ (t : is_space c ≡ true). rw t (presses_good cs p.1))
+    (λ (t : is_space c ≡ false). rw t (key_is c t p.0, presses_good cs p.1)) (cases_Bool (is_space c))
 
 one_good : (o : Option Event) → IfSome o IsEvent → IfSome (one o) AreEvents
 one_good o h = map_if AreEvents (λ e. e ∷ []) o (weaker IsEvent (λ e. AreEvents (e ∷ [])) o (λ e p. (p, tt)) h)
@@ -131,18 +146,24 @@ word_good : (word line : List ℕ) (event : Event) → IsEvent event → IfSome 
 word_good word line event p = test_if IsEvent (bytes_eq line word) event (λ e. p)
 
 make_good : (line : List ℕ) → IfSome (make_in line) IsEvent
-make_good line = map_if IsEvent Make (option_and_then config_in (after_prefix (codes "make ") line)) (some_if (λ t. Unit {0}) IsConfig config_in (after_prefix (codes "make ") line) (any (after_prefix (codes "make ") line)) (λ t u. config_good t))
+make_good line = map_if IsEvent Make (option_and_then config_in (after_prefix (codes "make ") line))
+    (some_if (λ t. Unit {0}) IsConfig config_in (after_prefix (codes "make ") line)
+    (any (after_prefix (codes "make ") line)) (λ t u. config_good t))
 
 tick_good : (line : List ℕ) → IfSome (tick_in line) IsEvent
 tick_good line =
     map_if IsEvent Tick (option_and_then (decimal_in 9) (after_prefix (codes "tick ") line))
-    (weaker (λ n. n < 10 ^ 9) (λ n. n ≤ 999999999) (option_and_then (decimal_in 9) (after_prefix (codes "tick ") line)) (λ n l. omega arith)
-    (some_if (λ t. Unit {0}) (λ n. n < 10 ^ 9) (decimal_in 9) (after_prefix (codes "tick ") line) (any (after_prefix (codes "tick ") line)) (λ t u. nine_below t)))
+    (weaker (λ n. n < 10 ^ 9) (λ n. n ≤ 999999999) (option_and_then (decimal_in 9) (after_prefix (codes "tick ") line))
+    (λ n l. omega arith)
+    (some_if (λ t. Unit {0}) (λ n. n < 10 ^ 9) (decimal_in 9) (after_prefix (codes "tick ") line)
+    (any (after_prefix (codes "tick ") line)) (λ t u. nine_below t)))
 
 keys_good : (line : List ℕ) → IfSome (keys_in line) AreEvents
 keys_good line =
-    some_if (λ t. Unit {0}) AreEvents pressed_in (after_prefix (codes "keys ") line) (any (after_prefix (codes "keys ") line))
-    (λ t u. test_if AreEvents (nat_lt 0 (length t) && are_key_text t) (presses t) (λ e. presses_good t (and_parts (nat_lt 0 (length t)) (are_key_text t) e).1))
+    some_if (λ t. Unit {0}) AreEvents pressed_in (after_prefix (codes "keys ") line)
+    (any (after_prefix (codes "keys ") line))
+    (λ t u. test_if AreEvents (nat_lt 0 (length t) && are_key_text t) (presses t)
+    (λ e. presses_good t (and_parts (nat_lt 0 (length t)) (are_key_text t) e).1))
 
 events_good : (line : List ℕ) → IfSome (events_in line) AreEvents
 events_good line =
@@ -157,60 +178,81 @@ steps_of_events : (events : List Event) → AreEvents events → AreSteps (map A
 steps_of_events [] h = tt
 steps_of_events (event ∷ events) h = (h.0, steps_of_events events h.1)
 
-device_good : (o : Option (List Event)) → IfSome o AreEvents → AreSteps (unwrap_or (option_map (λ events. map Act events) o) (Say (codes "unread") ∷ []))
+device_good : (o : Option (List Event)) → IfSome o AreEvents
+    → AreSteps (unwrap_or (option_map (λ events. map Act events) o) (Say (codes "unread") ∷ []))
 device_good None h = (tt, tt)
 device_good (Some events) h = steps_of_events events h
 
 -- a command
-number_good : (test : ℕ → Bool) (member : List ℕ) (value : Data) → IfSome (number_at test member value) (λ n. test n ≡ true)
+number_good : (test : ℕ → Bool) (member : List ℕ) (value : Data)
+    → IfSome (number_at test member value) (λ n. test n ≡ true)
 number_good test member value =
-    some_if (λ n. Unit {0}) (λ n. test n ≡ true) (passed test) (whole_at member value) (any (whole_at member value)) (λ n u. test_if (λ n. test n ≡ true) (test n) n (λ e. e))
+    some_if (λ n. Unit {0}) (λ n. test n ≡ true) (passed test) (whole_at member value) (any (whole_at member value))
+    (λ n u. test_if (λ n. test n ≡ true) (test n) n (λ e. e))
 
 within_is : (least most n : ℕ) → is_within least most n ≡ true → (least ≤ n) × (n ≤ most)
 within_is least most n h = let p = and_parts (nat_le least n) (nat_le n most) h in (le_is least n p.0, le_is n most p.1)
 
-within_good : (least most : ℕ) (member : List ℕ) (value : Data) → IfSome (number_at (is_within least most) member value) (λ n. (least ≤ n) × (n ≤ most))
+within_good : (least most : ℕ) (member : List ℕ) (value : Data)
+    → IfSome (number_at (is_within least most) member value) (λ n. (least ≤ n) × (n ≤ most))
 within_good least most member value =
-    weaker (λ n. is_within least most n ≡ true) (λ n. (least ≤ n) × (n ≤ most)) (number_at (is_within least most) member value) (λ n h. within_is least most n h) (number_good (is_within least most) member value)
+    weaker (λ n. is_within least most n ≡ true) (λ n. (least ≤ n) × (n ≤ most))
+    (number_at (is_within least most) member value) (λ n h. within_is least most n h)
+    (number_good (is_within least most) member value)
 
 name_good : (most : ℕ) (bytes : List ℕ) → IfSome (name_in most bytes) (λ name. length name ≤ most)
 name_good most bytes =
     test_if (λ name. length name ≤ most) (may_be_name most bytes) bytes
-    (λ e. le_is (length bytes) most (and_parts (nat_le (length bytes) most) (list_all is_name_byte bytes) (and_parts (nat_le 1 (length bytes)) _ e).1).0)
+    (λ e. le_is (length bytes) most (and_parts (nat_le (length bytes) most) (list_all is_name_byte bytes)
+    (and_parts (nat_le 1 (length bytes)) _ e).1).0)
 
 serial_good : (value : Data) → IfSome (serial_in value) (λ serial. length serial ≤ 16)
-serial_good value = some_if (λ t. Unit {0}) (λ serial. length serial ≤ 16) (name_in 16) (text_at (codes "serial") value) (any (text_at (codes "serial") value)) (λ t u. name_good 16 t)
+serial_good value = some_if (λ t. Unit {0}) (λ serial. length serial ≤ 16) (name_in 16) (text_at (codes "serial") value)
+    (any (text_at (codes "serial") value)) (λ t u. name_good 16 t)
 
 abbrev Good : Result Command TextFault → Type 0
 Good result = IfOk result IsCommand
 
-need_good : {A : Type 0} (P : A → Type 0) (rule : ℕ) (member : Option A) (next : A → Result Command TextFault) → IfSome member P → ((a : A) → P a → Good (next a)) → Good (need rule member next)
+need_good : {A : Type 0} (P : A → Type 0) (rule : ℕ) (member : Option A) (next : A → Result Command TextFault)
+    → IfSome member P → ((a : A) → P a → Good (next a)) → Good (need rule member next)
 need_good P rule None next h k = tt
 need_good P rule (Some a) next h k = k a h
 
 -- a member of which nothing is asked
-free : {A : Type 0} (rule : ℕ) (member : Option A) (next : A → Result Command TextFault) → ((a : A) → Good (next a)) → Good (need rule member next)
+free : {A : Type 0} (rule : ℕ) (member : Option A) (next : A → Result Command TextFault) → ((a : A) → Good (next a))
+    → Good (need rule member next)
 free rule None next k = tt
 free rule (Some a) next k = k a
 
 command_good : (value : Data) (verb : Verb) → Good (command_of value verb)
 command_good value verb_is.Enroll =
-    need_good (λ serial. length serial ≤ 16) 2 (serial_in value) _ (serial_good value) (λ serial a. free 4 (secret_in value) _ (λ key.
-    need_good (λ n. (0 ≤ n) × (n ≤ 999999999)) 5 (start_in value) _ (within_good 0 999999999 (codes "start") value) (λ start b.
-    need_good (λ n. divides_day n ≡ true) 6 (unit_in value) _ (number_good divides_day (codes "divider") value) (λ divider c. free 7 (entry_form_in value) _ (λ form.
-    need_good (λ n. (1 ≤ n) × (n ≤ 10 ^ 9)) 8 (price_in value) _ (within_good 1 (10 ^ 9) (codes "price") value) (λ price d.
-    need_good (λ n. (1 ≤ n) × (n ≤ 10 ^ 12)) 9 (total_in value) _ (within_good 1 (10 ^ 12) (codes "total") value) (λ total e.
+    need_good (λ serial. length serial ≤ 16) 2 (serial_in value) _ (serial_good value)
+    (λ serial a. free 4 (secret_in value) _ (λ key.
+    need_good (λ n. (0 ≤ n) × (n ≤ 999999999)) 5 (start_in value) _ (within_good 0 999999999 (codes "start") value)
+    (λ start b.
+    need_good (λ n. divides_day n ≡ true) 6 (unit_in value) _ (number_good divides_day (codes "divider") value)
+    (λ divider c. free 7 (entry_form_in value) _ (λ form.
+    need_good (λ n. (1 ≤ n) × (n ≤ 10 ^ 9)) 8 (price_in value) _ (within_good 1 (10 ^ 9) (codes "price") value)
+    (λ price d.
+    need_good (λ n. (1 ≤ n) × (n ≤ 10 ^ 12)) 9 (total_in value) _ (within_good 1 (10 ^ 12) (codes "total") value)
+    (λ total e.
     record { serial = a; start = omega (arith, b.1); divider = c; price = d; total = e })))))))
-command_good value verb_is.Pay = free 2 (serial_in value) _ (λ serial. free 3 (id_in value) _ (λ id. need_good (λ n. (1 ≤ n) × (n ≤ 10 ^ 12)) 10 (amount_in value) _ (within_good 1 (10 ^ 12) (codes "amount") value) (λ amount a. a)))
-command_good value verb_is.Set = free 2 (serial_in value) _ (λ serial. free 3 (id_in value) _ (λ id. need_good (λ n. (0 ≤ n) × (n ≤ 995)) 11 (units_in value) _ (within_good 0 995 (codes "units") value) (λ units a. a.1)))
+command_good value verb_is.Pay = free 2 (serial_in value) _
+    (λ serial. free 3 (id_in value) _ (λ id. need_good (λ n. (1 ≤ n) × (n ≤ 10 ^ 12)) 10 (amount_in value) _
+    (within_good 1 (10 ^ 12) (codes "amount") value) (λ amount a. a)))
+command_good value verb_is.Set = free 2 (serial_in value) _
+    (λ serial. free 3 (id_in value) _ (λ id. need_good (λ n. (0 ≤ n) × (n ≤ 995)) 11 (units_in value) _
+    (within_good 0 995 (codes "units") value) (λ units a. a.1)))
 command_good value verb_is.Disable = free 2 (serial_in value) _ (λ serial. free 3 (id_in value) _ (λ id. tt))
 command_good value verb_is.Sync = free 2 (serial_in value) _ (λ serial. free 3 (id_in value) _ (λ id. tt))
 command_good value verb_is.Order = free 3 (id_in value) _ (λ id. tt)
 command_good value verb_is.Show = free 2 (serial_in value) _ (λ serial. tt)
 command_good value verb_is.Raise = free 2 (serial_in value) _ (λ serial. tt)
 command_good value verb_is.Price =
-    free 2 (serial_in value) _ (λ serial. need_good (λ n. (1 ≤ n) × (n ≤ 10 ^ 9)) 8 (price_in value) _ (within_good 1 (10 ^ 9) (codes "price") value) (λ price a.
-    need_good (λ n. (0 ≤ n) × (n ≤ GREAT)) 12 (from_in value) _ (within_good 0 GREAT (codes "from") value) (λ from b. record { from = b.1; price = a })))
+    free 2 (serial_in value) _ (λ serial. need_good (λ n. (1 ≤ n) × (n ≤ 10 ^ 9)) 8 (price_in value) _
+    (within_good 1 (10 ^ 9) (codes "price") value) (λ price a.
+    need_good (λ n. (0 ≤ n) × (n ≤ GREAT)) 12 (from_in value) _ (within_good 0 GREAT (codes "from") value)
+    (λ from b. record { from = b.1; price = a })))
 
 command_at_good : (value : Option Data) → Good (command_at value)
 command_at_good None = tt
@@ -220,7 +262,8 @@ ledger_good : (result : Result Command TextFault) → Good result → AreSteps (
 ledger_good (Ok command) h = (h, tt)
 ledger_good (Err fault) h = (tt, tt)
 
-both_good : (ledger : Bool) (line : List ℕ) → AreSteps (if ledger then steps_of_ledger mode.Both line else steps_of_device mode.Both line)
+both_good : (ledger : Bool) (line : List ℕ) → AreSteps (if ledger then steps_of_ledger mode.Both line else
+    steps_of_device mode.Both line)
 unfolding command_in
 both_good true line = ledger_good (command_in line) (command_at_good (reading line))
 both_good false line = device_good (events_in line) (events_good line)
@@ -229,7 +272,8 @@ text_good : (line : List ℕ) → AreSteps (steps_of_text mode.Both line)
 text_good [] = tt
 text_good (c ∷ cs) = both_good (c == 123) (c ∷ cs)
 
-line_good : (long : Bool) (line said : List ℕ) → AreSteps (if long then Say said ∷ [] else steps_of_text mode.Both (trimmed line))
+line_good : (long : Bool) (line said : List ℕ)
+    → AreSteps (if long then Say said ∷ [] else steps_of_text mode.Both (trimmed line))
 line_good true line said = (tt, tt)
 line_good false line said = text_good (trimmed line)
 

@@ -31,7 +31,8 @@ told_append text xs ys =
     (filter (λ outcome. says text outcome.reply) ys)
 
 -- one more of what may be answered
-pub gather_more : (text : List ℕ) (start now new : List Stored) (list : List Foreseen) (i : ℕ) (x : Foreseen) → i < length list
+pub gather_more : (text : List ℕ) (start now new : List Stored) (list : List Foreseen) (i : ℕ) (x : Foreseen)
+    → i < length list
     → x ≡ get_or list i x
     → now ≡ put_storeds start (told_by text (map outcome_of (take i list)))
     → new ≡ put_storeds now (told_by text (outcome_of x ∷ []))
@@ -48,7 +49,8 @@ module _ (next : List ℕ → ℕ → ℕ) (text : List ℕ) (event : Event) (ke
   abbrev behind : Stored → List Stored
   behind stored = told_by text (outcomes_at next event keys stored)
 
-  told_one : (xs : List Stored) (y : Stored) → told_from next text event keys (xs ++ y ∷ []) ≡ told_from next text event keys xs ++ behind y
+  told_one : (xs : List Stored) (y : Stored) → told_from next text event keys (xs ++ y ∷ []) ≡ told_from next text event
+      keys xs ++ behind y
   told_one xs y =
       flat_map-append behind xs (y ∷ [])
       ∙ ap (λ (l : List Stored). flat_map behind xs ++ l) (append-nil (behind y))
@@ -71,7 +73,8 @@ module _ (next : List ℕ → ℕ → ℕ) (text : List ℕ) (event : Event) (ke
 pub put_old : (list : List Stored) (y : Stored) → list_any (same_stored y) list ≡ true → put_stored list y ≡ list
 put_old list y t = rw t refl
 
-pub put_new : (list : List Stored) (y : Stored) → list_any (same_stored y) list ≡ false → put_stored list y ≡ list ++ y ∷ []
+pub put_new : (list : List Stored) (y : Stored) → list_any (same_stored y) list ≡ false
+    → put_stored list y ≡ list ++ y ∷ []
 put_new list y t = rw t refl
 
 once_put : (list : List Stored) (y : Stored) → AreOnce list → AreOnce (put_stored list y)
@@ -115,7 +118,8 @@ module _ (on : Bool) (keys : Keys) (faults : ℕ) where
       ∙ ap (λ (x : Bool). same_stored a b && x) (nat_same faults)
       ∙ and_true (same_stored a b)
 
-  any_as : (a : Stored) (list : List Stored) → list_any (same_state (state_at a)) (map state_at list) ≡ list_any (same_stored a) list
+  any_as : (a : Stored) (list : List Stored) → list_any (same_state (state_at a)) (map state_at list) ≡ list_any
+      (same_stored a) list
   any_as a [] = refl
   any_as a (b ∷ list) =
       ⊎_elim
@@ -127,19 +131,23 @@ module _ (on : Bool) (keys : Keys) (faults : ℕ) where
   put_as list y =
       ⊎_elim
       (λ (t : list_any (same_stored y) list ≡ true). rw (any_as y list ∙ t, t) refl)
-      (λ (t : list_any (same_stored y) list ≡ false). rw (any_as y list ∙ t, t) (sym (map-append state_at list (y ∷ []))))
+      (λ (t : list_any (same_stored y) list ≡ false). rw (any_as y list ∙ t, t)
+      (sym (map-append state_at list (y ∷ []))))
       (cases_Bool (list_any (same_stored y) list))
 
   -- putting states is putting what their flash stands for
-  pub put_all_as : (list more : List Stored) → put_all (map state_at list) (map state_at more) ≡ map state_at (put_storeds list more)
+  pub put_all_as : (list more : List Stored) → put_all (map state_at list) (map state_at more) ≡ map state_at
+      (put_storeds list more)
   put_all_as list [] = refl
-  put_all_as list (y ∷ more) = ap (λ l. put_all l (map state_at more)) (put_as list y) ∙ put_all_as (put_stored list y) more
+  put_all_as list (y ∷ more) = ap (λ l. put_all l (map state_at more)) (put_as list y)
+      ∙ put_all_as (put_stored list y) more
 
 -- The states of the choices that pass this test.
 abbrev pub passing : (Option Reply → Bool) → List Choice → List State
 passing test list = map (λ c. c.state) (filter (λ c. test c.reply) list)
 
-passing_append : (test : Option Reply → Bool) (xs ys : List Choice) → passing test (xs ++ ys) ≡ passing test xs ++ passing test ys
+passing_append : (test : Option Reply → Bool) (xs ys : List Choice)
+    → passing test (xs ++ ys) ≡ passing test xs ++ passing test ys
 passing_append test xs ys =
     ap (map (λ c. c.state)) (filter-append (λ c. test c.reply) xs ys)
     ∙ map-append (λ c. c.state) (filter (λ c. test c.reply) xs) (filter (λ c. test c.reply) ys)
@@ -149,9 +157,11 @@ abbrev pub Each : (Stored → Type 0) → List Stored → Type 0
 Each P [] = Unit {0}
 Each P (stored ∷ storeds) = P stored × Each P storeds
 
-module _ (next : List ℕ → ℕ → ℕ) (test : Option Reply → Bool) (event : Event) (old new : Stored → State) (to : Stored → List Stored) (P : Stored → Type 0)
+module _ (next : List ℕ → ℕ → ℕ) (test : Option Reply → Bool) (event : Event) (old new : Stored → State) (to : Stored
+    → List Stored) (P : Stored → Type 0)
     (goes : (s : Stored) → P s → passing test (after next (old s) event) ≡ map new (to s)) where
-  passing_from : (storeds : List Stored) → Each P storeds → passing test (choices next event (map old storeds)) ≡ map new (flat_map to storeds)
+  passing_from : (storeds : List Stored) → Each P storeds
+      → passing test (choices next event (map old storeds)) ≡ map new (flat_map to storeds)
   passing_from [] each = refl
   passing_from (s ∷ storeds) each =
       passing_append test (after next (old s) event) (choices next event (map old storeds))
@@ -160,7 +170,8 @@ module _ (next : List ℕ → ℕ → ℕ) (test : Option Reply → Bool) (event
       ∙ sym (map-append new (to s) (flat_map to storeds))
 
 -- where each state goes on so, all of them do
-pub goes_as : (next : List ℕ → ℕ → ℕ) (test : Option Reply → Bool) (event : Event) (old : Stored → State) (on : Bool) (keys : Keys) (faults : ℕ) (to : Stored → List Stored) (P : Stored → Type 0)
+pub goes_as : (next : List ℕ → ℕ → ℕ) (test : Option Reply → Bool) (event : Event) (old : Stored → State) (on : Bool)
+    (keys : Keys) (faults : ℕ) (to : Stored → List Stored) (P : Stored → Type 0)
     → ((s : Stored) → P s → passing test (after next (old s) event) ≡ map (state_as on keys faults) (to s))
     → (storeds : List Stored) → Each P storeds
     → going_on next test event (map old storeds) ≡ states_as on keys faults (put_storeds [] (flat_map to storeds))
@@ -187,12 +198,14 @@ pub standings_more : (xs : List Standing) (y : Standing) → AreStandings xs →
 standings_more [] y h k = (k, tt)
 standings_more (x ∷ xs) y h k = (h.0, standings_more xs y h.1 k)
 
-pub standing_at : (xs : List Standing) (i : ℕ) (d : Standing) → i < length xs → AreStandings xs → IsStanding (get_or xs i d)
+pub standing_at : (xs : List Standing) (i : ℕ) (d : Standing) → i < length xs → AreStandings xs
+    → IsStanding (get_or xs i d)
 standing_at [] i d within are = absurd (omega (arith, within))
 standing_at (x ∷ xs) zero d within are = are.0
 standing_at (x ∷ xs) (suc i) d within are = standing_at xs i d (omega (arith, within)) are.1
 
-pub foretold_at : (xs : List Foreseen) (i : ℕ) (d : Foreseen) → i < length xs → AreForetold xs → IsStanding (get_or xs i d).standing
+pub foretold_at : (xs : List Foreseen) (i : ℕ) (d : Foreseen) → i < length xs → AreForetold xs
+    → IsStanding (get_or xs i d).standing
 foretold_at [] i d within are = absurd (omega (arith, within))
 foretold_at (x ∷ xs) zero d within are = are.0
 foretold_at (x ∷ xs) (suc i) d within are = foretold_at xs i d (omega (arith, within)) are.1

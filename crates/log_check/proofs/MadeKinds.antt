@@ -29,7 +29,8 @@ all_append : (made : Bool) (xs ys : List Stored) → AllMade made xs → AllMade
 all_append made [] ys h k = k
 all_append made (x ∷ xs) ys h k = (h.0, all_append made xs ys h.1 k)
 
-all_put : (made : Bool) (xs : List Stored) (y : Stored) → AllMade made xs → is_made y ≡ made → AllMade made (put_stored xs y)
+all_put : (made : Bool) (xs : List Stored) (y : Stored) → AllMade made xs → is_made y ≡ made
+    → AllMade made (put_stored xs y)
 all_put made xs y h k =
     ⊎_elim
     (λ (t : list_any (same_stored y) xs ≡ true). rw t h)
@@ -48,9 +49,11 @@ alike_by made (s ∷ storeds) h = subst (λ (m : Bool). AllMade m (s ∷ storeds
 -- Of what may be answered with this text, all are made or none.
 abbrev Kinds : Bool → List ℕ → List Outcome → Type 0
 Kinds made text [] = Unit {0}
-Kinds made text (outcome ∷ list) = (says text outcome.reply ≡ true → is_made outcome.stored ≡ made) × Kinds made text list
+Kinds made text (outcome ∷ list) = (says text outcome.reply ≡ true → is_made outcome.stored ≡ made)
+    × Kinds made text list
 
-told_kinds : (made : Bool) (text : List ℕ) (list : List Outcome) → Kinds made text list → AllMade made (told_by text list)
+told_kinds : (made : Bool) (text : List ℕ) (list : List Outcome) → Kinds made text list
+    → AllMade made (told_by text list)
 told_kinds made text [] k = tt
 told_kinds made text (outcome ∷ list) k =
     ⊎_elim
@@ -68,7 +71,8 @@ adding_kinds : (text : List ℕ) (history : History) (entry : Entry) → Kinds t
 adding_kinds text history entry =
     ⊎_elim
     (λ (t : (room history.at == 0) ≡ true). rw t (λ u. refl, tt))
-    (λ (t : (room history.at == 0) ≡ false). rw t (λ u. refl, (λ u. refl, moved_kinds text history (left_at history.at))))
+    (λ (t : (room history.at == 0) ≡ false). rw t
+    (λ u. refl, (λ u. refl, moved_kinds text history (left_at history.at))))
     (cases_Bool (room history.at == 0))
 
 raising_kinds : (text : List ℕ) (history : History) → Kinds true text (raising history)
@@ -117,21 +121,25 @@ up_text count left false block e = other 112 110 (ap second e) refl
 module _ (text : List ℕ) (uncut : is_cut text ≡ false) where
   -- the text isn't that of a cut
   down_not : (made is : Bool) → bytes_eq (codes "down") text ≡ true → is ≡ made
-  down_not made is t = absurd (not_both (is_cut text) (text_same text (codes "down") (sym (same_text (codes "down") text t))) uncut)
+  down_not made is t = absurd (not_both (is_cut text) (text_same text (codes "down")
+      (sym (same_text (codes "down") text t))) uncut)
 
   unmade_says : bytes_eq (codes "unmade") text ≡ true → false ≡ not (bytes_eq text (codes "unmade"))
   unmade_says t = ap not (sym (text_same text (codes "unmade") (sym (same_text (codes "unmade") text t))))
 
-  up_says : (count left : ℕ) (free : Bool) (block : ℕ) → bytes_eq (text_of (reply_is.Up count left free block)) text ≡ true
+  up_says : (count left : ℕ) (free : Bool) (block : ℕ)
+      → bytes_eq (text_of (reply_is.Up count left free block)) text ≡ true
       → true ≡ not (bytes_eq text (codes "unmade"))
   up_says count left free block t =
       ⊎_elim
       (λ (u : bytes_eq text (codes "unmade") ≡ true).
-      absurd (up_text count left free block (same_text (text_of (reply_is.Up count left free block)) text t ∙ same_text text (codes "unmade") u)))
+      absurd (up_text count left free block (same_text (text_of (reply_is.Up count left free block)) text t
+      ∙ same_text text (codes "unmade") u)))
       (λ (u : bytes_eq text (codes "unmade") ≡ false). ap not (sym u))
       (cases_Bool (bytes_eq text (codes "unmade")))
 
-  kinds_at : (next : List ℕ → ℕ → ℕ) (event : Event) (keys : Keys) (made : Bool) (standing : Standing) → Like event made (stored_of standing)
+  kinds_at : (next : List ℕ → ℕ → ℕ) (event : Event) (keys : Keys) (made : Bool) (standing : Standing)
+      → Like event made (stored_of standing)
       → Kinds (kind_after event text made) text (outcomes_at next event keys (stored_of standing))
   kinds_at next Power keys made Blank like = (unmade_says, (down_not (kind_after Power text made) false, tt))
   kinds_at next Power keys made (Made m) like =
@@ -142,12 +150,14 @@ module _ (text : List ℕ) (uncut : is_cut text ≡ false) where
   kinds_at next (Tick seconds) keys made Blank like = (λ t. like, tt)
   kinds_at next Show keys made Blank like = (λ t. like, tt)
   kinds_at next Raise keys made Blank like = (λ t. like, tt)
-  kinds_at next (Make config) keys made (Made m) like = effect_kinds text (history_of m) (effect_of next (history_of m) keys (Make config))
+  kinds_at next (Make config) keys made (Made m) like = effect_kinds text (history_of m)
+      (effect_of next (history_of m) keys (Make config))
   kinds_at next (Key key) keys made (Made m) like =
       subst (λ (k : Bool). Kinds k text (by_effect (history_of m) (effect_of next (history_of m) keys (Key key)))) like
       (effect_kinds text (history_of m) (effect_of next (history_of m) keys (Key key)))
   kinds_at next (Tick seconds) keys made (Made m) like =
-      subst (λ (k : Bool). Kinds k text (by_effect (history_of m) (effect_of next (history_of m) keys (Tick seconds)))) like
+      subst (λ (k : Bool). Kinds k text (by_effect (history_of m) (effect_of next (history_of m) keys (Tick seconds))))
+      like
       (effect_kinds text (history_of m) (effect_of next (history_of m) keys (Tick seconds)))
   kinds_at next Show keys made (Made m) like =
       subst (λ (k : Bool). Kinds k text (by_effect (history_of m) (effect_of next (history_of m) keys Show))) like
@@ -156,17 +166,22 @@ module _ (text : List ℕ) (uncut : is_cut text ≡ false) where
       subst (λ (k : Bool). Kinds k text (by_effect (history_of m) (effect_of next (history_of m) keys Raise))) like
       (effect_kinds text (history_of m) (effect_of next (history_of m) keys Raise))
 
-  kinds_from : (next : List ℕ → ℕ → ℕ) (event : Event) (keys : Keys) (made : Bool) (standings : List Standing) → Each (Like event made) (storeds_of standings)
+  kinds_from : (next : List ℕ → ℕ → ℕ) (event : Event) (keys : Keys) (made : Bool) (standings : List Standing)
+      → Each (Like event made) (storeds_of standings)
       → AllMade (kind_after event text made) (told_from next text event keys (storeds_of standings))
   kinds_from next event keys made [] like = tt
   kinds_from next event keys made (s ∷ standings) like =
-      all_append (kind_after event text made) (told_by text (outcomes_at next event keys (stored_of s))) (told_from next text event keys (storeds_of standings))
-      (told_kinds (kind_after event text made) text (outcomes_at next event keys (stored_of s)) (kinds_at next event keys made s like.0))
+      all_append (kind_after event text made) (told_by text (outcomes_at next event keys (stored_of s)))
+      (told_from next text event keys (storeds_of standings))
+      (told_kinds (kind_after event text made) text (outcomes_at next event keys (stored_of s))
+      (kinds_at next event keys made s like.0))
       (kinds_from next event keys made standings like.1)
 
   -- behind an answer that leaves the device on, all are made or none
-  pub alike_from : (next : List ℕ → ℕ → ℕ) (event : Event) (keys : Keys) (made : Bool) (standings : List Standing) → Each (Like event made) (storeds_of standings)
+  pub alike_from : (next : List ℕ → ℕ → ℕ) (event : Event) (keys : Keys) (made : Bool) (standings : List Standing)
+      → Each (Like event made) (storeds_of standings)
       → AreAlike (put_storeds [] (told_from next text event keys (storeds_of standings)))
   alike_from next event keys made standings like =
       alike_by (kind_after event text made) (put_storeds [] (told_from next text event keys (storeds_of standings)))
-      (all_put_all (kind_after event text made) [] (told_from next text event keys (storeds_of standings)) tt (kinds_from next event keys made standings like))
+      (all_put_all (kind_after event text made) [] (told_from next text event keys (storeds_of standings)) tt
+      (kinds_from next event keys made standings like))

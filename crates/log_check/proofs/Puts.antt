@@ -38,7 +38,8 @@ config_with key start divider form = record { key = key; start = start; divider 
 
 config_is : (a b : Config) → same_config a b ≡ true → a ≡ b
 config_is a b h =
-    let p = and_parts (bytes_eq a.key b.key) ((a.start == b.start) && ((a.divider == b.divider) && same_form a.form b.form)) h in
+    let p = and_parts (bytes_eq a.key b.key) ((a.start == b.start) &&
+    ((a.divider == b.divider) && same_form a.form b.form)) h in
     let q = and_parts (a.start == b.start) ((a.divider == b.divider) && same_form a.form b.form) p.1 in
     let r = and_parts (a.divider == b.divider) (same_form a.form b.form) q.1 in
     ap (λ k. config_with k a.start a.divider a.form) ((bytes_eq-Decides a.key b.key).0 p.0)
@@ -52,10 +53,12 @@ position_with number place = record { number = number; place = place }
 position_is : (a b : Position) → same_position a b ≡ true → a ≡ b
 position_is a b h =
     let p = and_parts (a.number == b.number) (a.place == b.place) h in
-    ap (λ n. position_with n a.place) (nat_is a.number b.number p.0) ∙ ap (λ n. position_with b.number n) (nat_is a.place b.place p.1)
+    ap (λ n. position_with n a.place) (nat_is a.number b.number p.0)
+    ∙ ap (λ n. position_with b.number n) (nat_is a.place b.place p.1)
 
 abbrev summary_with : ℕ → ℕ → ℕ → ℕ → Bool → ℕ → ℕ → Summary
-summary_with limit last bits left free fails block = record { limit = limit; last = last; bits = bits; left = left; free = free; fails = fails; block = block }
+summary_with limit last bits left free fails block = record
+    { limit = limit; last = last; bits = bits; left = left; free = free; fails = fails; block = block }
 
 summary_is : (a b : Summary) → same_summary a b ≡ true → a ≡ b
 summary_is a b h =
@@ -90,7 +93,8 @@ stored_is (Broken word) (Broken place) h f g = ap Broken (nat_is word place h)
 stored_is (Journal a) (Journal b) h f g =
     let p = and_parts (same_config a.config b.config) _ h in
     let q = and_parts (same_summary a.start b.start) (same_position a.at b.at) p.1 in
-    no_entries a f ∙ ap (λ c. history_with c a.start a.at) (config_is a.config b.config p.0) ∙ ap (λ s. history_with b.config s a.at) (summary_is a.start b.start q.0)
+    no_entries a f ∙ ap (λ c. history_with c a.start a.at) (config_is a.config b.config p.0)
+    ∙ ap (λ s. history_with b.config s a.at) (summary_is a.start b.start q.0)
     ∙ ap (λ p. history_with b.config b.start p) (position_is a.at b.at q.1) ∙ sym (no_entries b g)
 stored_is Blank (Broken place) h f g = absurd cc
 stored_is Blank (Journal b) h f g = absurd cc
@@ -105,7 +109,8 @@ keys_with pressed seconds = record { pressed = pressed; seconds = seconds }
 keys_is : (a b : Keys) → same_keys a b ≡ true → a ≡ b
 keys_is a b h =
     let p = and_parts (bytes_eq a.pressed b.pressed) (a.seconds == b.seconds) h in
-    ap (λ l. keys_with l a.seconds) ((bytes_eq-Decides a.pressed b.pressed).0 p.0) ∙ ap (λ n. keys_with b.pressed n) (nat_is a.seconds b.seconds p.1)
+    ap (λ l. keys_with l a.seconds) ((bytes_eq-Decides a.pressed b.pressed).0 p.0)
+    ∙ ap (λ n. keys_with b.pressed n) (nat_is a.seconds b.seconds p.1)
 
 abbrev state_with : Bool → Stored → Keys → ℕ → State
 state_with on stored keys faults = record { on = on; stored = stored; keys = keys; faults = faults }
@@ -124,37 +129,47 @@ same_state_is a b h f g =
 abbrev pub AllForget : List State → Type 0
 AllForget states = (x : State) → Contains states x → Forgets x.stored
 
-any_is : (states : List State) (x : State) → AllForget states → Forgets x.stored → list_any (same_state x) states ≡ true → Contains states x
+any_is : (states : List State) (x : State) → AllForget states → Forgets x.stored → list_any (same_state x) states ≡ true
+    → Contains states x
 any_is [] x forget f h = absurd cc
 any_is (y ∷ states) x forget f h =
     ⊎_elim
     (λ (t : same_state x y ≡ true). one_in y x states (sym (same_state_is x y t f (forget y (first_in y states)))))
-    (λ (t : same_state x y ≡ false). let h' : list_any (same_state x) states ≡ true = rw t at h in later_in y x states (any_is states x (λ z c. forget z (later_in y z states c)) f h'))
+    (λ (t : same_state x y ≡ false). let h' : list_any (same_state x) states ≡ true = rw t at h in later_in y x states
+    (any_is states x (λ z c. forget z (later_in y z states c)) f h'))
     (cases_Bool (same_state x y))
 
 put_keeps : (states : List State) (y x : State) → Contains states x → Contains (put states y) x
 put_keeps states y x h =
-    ⊎_elim (λ (t : list_any (same_state y) states ≡ true). rw t h) (λ (t : list_any (same_state y) states ≡ false). rw t (Contains-append_left states (y ∷ []) x h)) (cases_Bool (list_any (same_state y) states))
+    ⊎_elim (λ (t : list_any (same_state y) states ≡ true). rw t h)
+    (λ (t : list_any (same_state y) states ≡ false). rw t (Contains-append_left states (y ∷ []) x h))
+    (cases_Bool (list_any (same_state y) states))
 
 put_has : (states : List State) (y : State) → AllForget states → Forgets y.stored → Contains (put states y) y
 put_has states y forget f =
-    ⊎_elim (λ (t : list_any (same_state y) states ≡ true). rw t (any_is states y forget f t)) (λ (t : list_any (same_state y) states ≡ false). rw t (Contains-append_right states (y ∷ []) y (first_in y []))) (cases_Bool (list_any (same_state y) states))
+    ⊎_elim (λ (t : list_any (same_state y) states ≡ true). rw t (any_is states y forget f t))
+    (λ (t : list_any (same_state y) states ≡ false). rw t (Contains-append_right states (y ∷ []) y (first_in y [])))
+    (cases_Bool (list_any (same_state y) states))
 
 in_put : (states : List State) (y x : State) → Contains (put states y) x → Contains states x ⊎ (y ≡ x)
 in_put states y x h =
     ⊎_elim (λ (t : list_any (same_state y) states ≡ true). let h' : Contains states x = rw t at h in inl h')
     (λ (t : list_any (same_state y) states ≡ false). let h' : Contains (states ++ y ∷ []) x = rw t at h in
-    ⊎_elim (λ (c : Contains states x). inl c) (λ (c : Contains (y ∷ []) x). inr (in_one y x c)) (Contains-append_cases states (y ∷ []) x h'))
+    ⊎_elim (λ (c : Contains states x). inl c) (λ (c : Contains (y ∷ []) x). inr (in_one y x c))
+    (Contains-append_cases states (y ∷ []) x h'))
     (cases_Bool (list_any (same_state y) states))
 
 put_forgets : (states : List State) (y : State) → AllForget states → Forgets y.stored → AllForget (put states y)
-put_forgets states y forget f x h = ⊎_elim (λ (c : Contains states x). forget x c) (λ (e : y ≡ x). subst (λ (s : State). Forgets s.stored) e f) (in_put states y x h)
+put_forgets states y forget f x h = ⊎_elim (λ (c : Contains states x). forget x c)
+    (λ (e : y ≡ x). subst (λ (s : State). Forgets s.stored) e f) (in_put states y x h)
 
-pub in_put_all : (states more : List State) (x : State) → Contains (put_all states more) x → Contains states x ⊎ Contains more x
+pub in_put_all : (states more : List State) (x : State) → Contains (put_all states more) x → Contains states x
+    ⊎ Contains more x
 in_put_all states [] x h = inl h
 in_put_all states (y ∷ more) x h =
     ⊎_elim
-    (λ (c : Contains (put states y) x). ⊎_elim (λ (d : Contains states x). inl d) (λ (e : y ≡ x). inr (one_in y x more e)) (in_put states y x c))
+    (λ (c : Contains (put states y) x). ⊎_elim (λ (d : Contains states x). inl d)
+    (λ (e : y ≡ x). inr (one_in y x more e)) (in_put states y x c))
     (λ (c : Contains more x). inr (later_in y x more c))
     (in_put_all (put states y) more x h)
 
@@ -162,13 +177,15 @@ put_all_keeps : (states more : List State) (x : State) → Contains states x →
 put_all_keeps states [] x h = h
 put_all_keeps states (y ∷ more) x h = put_all_keeps (put states y) more x (put_keeps states y x h)
 
-pub put_all_has : (states more : List State) (x : State) → AllForget states → AllForget more → Contains more x → Contains (put_all states more) x
+pub put_all_has : (states more : List State) (x : State) → AllForget states → AllForget more → Contains more x
+    → Contains (put_all states more) x
 put_all_has states [] x forget forgets h = absurd (none_in x h)
 put_all_has states (y ∷ more) x forget forgets h =
     let f : Forgets y.stored = forgets y (first_in y more) in
     ⊎_elim
     (λ (e : y ≡ x). put_all_keeps (put states y) more x (subst (Contains (put states y)) e (put_has states y forget f)))
-    (λ (c : Contains more x). put_all_has (put states y) more x (put_forgets states y forget f) (λ z d. forgets z (later_in y z more d)) c)
+    (λ (c : Contains more x). put_all_has (put states y) more x (put_forgets states y forget f)
+    (λ z d. forgets z (later_in y z more d)) c)
     (cases_in y x more h)
 
 stored_forgets : (stored : Stored) → Forgets (summed stored)

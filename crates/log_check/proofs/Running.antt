@@ -31,7 +31,8 @@ line_is (Some (ToldOf reply)) = sym (append-nil (text_of reply ++ 10 ∷ []))
 text_is : (answers : List (Option Answer)) → text answers ≡ flat_map ended (texts answers)
 text_is [] = refl
 text_is (answer ∷ answers) =
-    ap (λ (l : List ℕ). l ++ text answers) (line_is answer) ∙ ap (λ (l : List ℕ). flat_map ended (texts_of answer) ++ l) (text_is answers)
+    ap (λ (l : List ℕ). l ++ text answers) (line_is answer)
+    ∙ ap (λ (l : List ℕ). flat_map ended (texts_of answer) ++ l) (text_is answers)
     ∙ sym (flat_map-append ended (texts_of answer) (texts answers))
 
 module _ (next : List ℕ → ℕ → ℕ) where
@@ -45,12 +46,23 @@ module _ (next : List ℕ → ℕ → ℕ) where
   talks_run (talk ∷ talks) start now over =
       let r = talks_run talks over.0 now over.2 in record {
         answers = talk.answers ++ r.answers;
-        run = subst (λ (l : List Step). Run next start (steps_of_line mode.Both talk.line ++ l) (talk.answers ++ r.answers) now) (sym (asked_told (texts talk.answers) (log_of talks)))
-            (run_append next start over.0 now (steps_of_line mode.Both talk.line) (asked_in (log_of talks)) talk.answers r.answers over.1 r.run);
-        told = flat_map-append texts_of talk.answers r.answers ∙ ap (λ (l : List (List ℕ)). texts talk.answers ++ l) r.told ∙ sym (told_told (texts talk.answers) (log_of talks));
+        run = subst (λ (l : List Step). Run next start (steps_of_line mode.Both talk.line ++ l)
+            (talk.answers ++ r.answers) now) (sym (asked_told (texts talk.answers) (log_of talks)))
+            (run_append next start over.0 now (steps_of_line mode.Both talk.line) (asked_in (log_of talks)) talk.answers
+            r.answers over.1 r.run);
+        told = flat_map-append texts_of talk.answers r.answers
+            ∙ ap (λ (l : List (List ℕ)). texts talk.answers ++ l) r.told
+            ∙ sym (told_told (texts talk.answers) (log_of talks));
       }
 
   pub log_runs : (lines : List Marked) → IsLog next lines → IsRun next lines
   log_runs lines log =
-      let w : Whole (beginning no_tables Blank 0) log.now lines = subst (Whole (beginning no_tables Blank 0) log.now) log.log_is (talks_run log.talks (beginning no_tables Blank 0) log.now log.run) in
-      record { answers = w.answers; now = log.now; run = w.run; written = text_is w.answers ∙ ap (flat_map ended) w.told }
+      let w : Whole (beginning no_tables Blank 0) log.now lines = subst (Whole (beginning no_tables Blank 0) log.now)
+      log.log_is (talks_run log.talks (beginning no_tables Blank 0) log.now log.run) in
+      record {
+        answers = w.answers;
+        now = log.now;
+        run = w.run;
+        written = text_is w.answers
+            ∙ ap (flat_map ended) w.told;
+      }

@@ -18,13 +18,16 @@ use Rattle.log_check.specs.Fits.{Typed, Told, Unmarked, Fit, fit, is_silent, goi
 use Rattle.log_check.specs.Kept.{AreStates}
 use Rattle.log_check.specs.Waiting.{AreEvents, acts_from, some_wait, IsSettled, SettledTo}
 
-pub acts_at : (events : List Event) (at : ℕ) (d : Event) → at < length events → acts_from at events ≡ Act (get_or events at d) ∷ acts_from (at + 1) events
-acts_at events at d within = ap (map Act) (drop-cons events at d within ∙ ap (λ n. get_or events at d ∷ drop n events) (sym (add-one at)))
+pub acts_at : (events : List Event) (at : ℕ) (d : Event) → at < length events
+    → acts_from at events ≡ Act (get_or events at d) ∷ acts_from (at + 1) events
+acts_at events at d within = ap (map Act) (drop-cons events at d within
+    ∙ ap (λ n. get_or events at d ∷ drop n events) (sym (add-one at)))
 
 pub acts_end : (events : List Event) (at : ℕ) → length events ≤ at → acts_from at events ≡ []
 acts_end events at end = ap (map Act) (drop_all at events end)
 
-pub event_at : (events : List Event) (at : ℕ) (d : Event) → at < length events → AreEvents events → IsEvent (get_or events at d)
+pub event_at : (events : List Event) (at : ℕ) (d : Event) → at < length events → AreEvents events
+    → IsEvent (get_or events at d)
 event_at [] at d within are = absurd (omega (arith, within))
 event_at (event ∷ events) zero d within are = are.0
 event_at (event ∷ events) (suc at) d within are = event_at events at d (omega (arith, within)) are.1
@@ -44,20 +47,25 @@ module _ (next : List ℕ → ℕ → ℕ) (tables : Tables) where
     pub are : AreStates kept states
     pub same : settled next waiting tables old ≡ settled next left tables states
 
-  pub none_taken : (old : List State) (waiting : List Step) (kept : States) → AreStates kept old → Settling old waiting kept waiting
+  pub none_taken : (old : List State) (waiting : List Step) (kept : States) → AreStates kept old
+      → Settling old waiting kept waiting
   none_taken old waiting kept are = record { states = old; are = are; same = refl }
 
-  module _ (old : List State) (waiting : List Step) (kept : States) (left : List Step) (so_far : Settling old waiting kept left) where
+  module _ (old : List State) (waiting : List Step) (kept : States) (left : List Step)
+      (so_far : Settling old waiting kept left) where
     -- one step more is taken
-    pub one_taken : (event : Event) (steps : List Step) (new : States) → left ≡ Act event ∷ steps → is_silent event so_far.states ≡ true
+    pub one_taken : (event : Event) (steps : List Step) (new : States) → left ≡ Act event ∷ steps
+        → is_silent event so_far.states ≡ true
         → AreStates new (going_on next is_none event so_far.states) → Settling old waiting new steps
     one_taken event steps new is silent are = record {
       states = going_on next is_none event so_far.states;
       are = are;
-      same = so_far.same ∙ ap (λ (l : List Step). settled next l tables so_far.states) is ∙ takes_first event steps so_far.states silent;
+      same = so_far.same ∙ ap (λ (l : List Step). settled next l tables so_far.states) is
+          ∙ takes_first event steps so_far.states silent;
     }
 
-    ends : left ≡ left → settled next left tables so_far.states ≡ fit left tables so_far.states → IsSettled left so_far.states → SettledTo next tables old waiting kept left
+    ends : left ≡ left → settled next left tables so_far.states ≡ fit left tables so_far.states
+        → IsSettled left so_far.states → SettledTo next tables old waiting kept left
     ends same is quiet =
         let e : settled next waiting tables old ≡ fit left tables so_far.states = so_far.same ∙ is in
         record {
@@ -68,10 +76,12 @@ module _ (next : List ℕ → ℕ → ℕ) (tables : Tables) where
         }
 
     -- the next step is answered
-    pub stops : (event : Event) (steps : List Step) → left ≡ Act event ∷ steps → is_silent event so_far.states ≡ false → SettledTo next tables old waiting kept left
+    pub stops : (event : Event) (steps : List Step) → left ≡ Act event ∷ steps → is_silent event so_far.states ≡ false
+        → SettledTo next tables old waiting kept left
     stops event steps is answered =
         ends refl
-        (ap (λ (l : List Step). settled next l tables so_far.states) is ∙ leaves_first event steps so_far.states answered
+        (ap (λ (l : List Step). settled next l tables so_far.states) is
+        ∙ leaves_first event steps so_far.states answered
         ∙ ap (λ (l : List Step). fit l tables so_far.states) (sym is))
         (subst (λ (l : List Step). IsSettled l so_far.states) (sym is) answered)
 
@@ -79,17 +89,20 @@ module _ (next : List ℕ → ℕ → ℕ) (tables : Tables) where
     pub is_done : left ≡ [] → SettledTo next tables old waiting kept left
     is_done is =
         ends refl
-        (ap (λ (l : List Step). settled next l tables so_far.states) is ∙ ap (λ (l : List Step). fit l tables so_far.states) (sym is))
+        (ap (λ (l : List Step). settled next l tables so_far.states) is
+        ∙ ap (λ (l : List Step). fit l tables so_far.states) (sym is))
         (subst (λ (l : List Step). IsSettled l so_far.states) (sym is) tt)
 
-  pub settles_say : (text : List ℕ) (old : List State) (kept : States) → AreStates kept old → SettledTo next tables old (Say text ∷ []) kept (Say text ∷ [])
+  pub settles_say : (text : List ℕ) (old : List State) (kept : States) → AreStates kept old
+      → SettledTo next tables old (Say text ∷ []) kept (Say text ∷ [])
   settles_say text old kept are = record { tables_are = refl; left_are = refl; states_are = are; is_settled = tt }
 
 -- the keys of two texts
 presses_both : (xs ys : List ℕ) → presses (xs ++ ys) ≡ presses xs ++ presses ys
 presses_both [] ys = refl
 presses_both (x ∷ xs) ys =
-    elim (is_space x) as (λ b. cond b (presses (xs ++ ys)) (Key x ∷ presses (xs ++ ys)) ≡ cond b (presses xs) (Key x ∷ presses xs) ++ presses ys) [
+    elim (is_space x) as (λ b. cond b (presses (xs ++ ys)) (Key x ∷ presses (xs ++ ys)) ≡ cond b (presses xs)
+    (Key x ∷ presses xs) ++ presses ys) [
       | true ↦ presses_both xs ys
       | false ↦ ap (λ keys. Key x ∷ keys) (presses_both xs ys)
     ]
@@ -113,11 +126,14 @@ pub both_takes_device : mode.Both ≢ mode.Serve
 both_takes_device e = cc
 
 -- what waits behind the first of these events
-pub drop_acts : (events : List Event) (at : ℕ) (d : Event) → at < length events → drop 1 (acts_from at events) ≡ acts_from (at + 1) events
+pub drop_acts : (events : List Event) (at : ℕ) (d : Event) → at < length events
+    → drop 1 (acts_from at events) ≡ acts_from (at + 1) events
 drop_acts events at d within = ap (drop 1) (acts_at events at d within)
 
-pub first_acts : (events : List Event) (at : ℕ) (d : Event) → at < length events → acts_from at events ≡ Act (get_or events at d) ∷ drop 1 (acts_from at events)
-first_acts events at d within = acts_at events at d within ∙ ap (λ (l : List Step). Act (get_or events at d) ∷ l) (sym (drop_acts events at d within))
+pub first_acts : (events : List Event) (at : ℕ) (d : Event) → at < length events
+    → acts_from at events ≡ Act (get_or events at d) ∷ drop 1 (acts_from at events)
+first_acts events at d within = acts_at events at d within
+    ∙ ap (λ (l : List Step). Act (get_or events at d) ∷ l) (sym (drop_acts events at d within))
 
 -- whether one of these events waits
 pub some_acts : (events : List Event) (at : ℕ) → some_wait (acts_from at events) ≡ nat_lt at (length events)

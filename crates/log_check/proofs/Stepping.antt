@@ -11,7 +11,8 @@ module _ (next : List ℕ → ℕ → ℕ) where
   known n now ended = record { lines = n; now = now; ended = ended }
 
   -- a verdict that stands is passed on
-  stands : (lines : List Marked) (n : ℕ) (now : Fit) (verdict : Verdict) → verdict_of (with_lines next (known n now (Some verdict)) lines) ≡ verdict
+  stands : (lines : List Marked) (n : ℕ) (now : Fit) (verdict : Verdict)
+      → verdict_of (with_lines next (known n now (Some verdict)) lines) ≡ verdict
   stands [] n now verdict = refl
   stands (line ∷ lines) n now verdict = stands lines n now verdict
 
@@ -26,7 +27,8 @@ module _ (next : List ℕ → ℕ → ℕ) where
   judges : (lines : List Marked) → Judged lines
   judges [] n now = refl
   judges (line ∷ lines) n now =
-      behind lines (judges lines) (n + 1) (after_line next now line) (ended_at (n + 1) line (after_line next now line).states)
+      behind lines (judges lines) (n + 1) (after_line next now line)
+      (ended_at (n + 1) line (after_line next now line).states)
 
   pub check_judges : (lines : List Marked) → verdict_of (with_lines next first_checked lines) ≡ verdict_on next lines
   check_judges lines = judges lines 0 first_fit

@@ -1,5 +1,6 @@
--- What a device may answer to an event and go on to, as a list: at most five pairs, the one without a power cut first. Its
--- states hold the summary of a history in place of the history, so that two histories with one summary are one state.
+-- What a device may answer to an event and go on to, as a list: at most five pairs, the one without a power cut first.
+-- Its states hold the summary of a history in place of the history, so that two histories with one summary are one
+-- state.
 use Rattle.std.specs.Prelude.{ℕ, Bool, true, false, ◌==◌, List, [], ◌∷◌, map, Option, Some, None, if◌then◌else◌}
 use Rattle.paygo_spec.specs.declared.Config.{Config}
 use Rattle.paygo_spec.specs.declared.Entry.{Entry}
@@ -54,11 +55,13 @@ left_at at = at ∷ further at ∷ (if at.place == 512 then turned at ∷ [] els
 abbrev pub adding : History → Entry → List Outcome
 adding history entry =
     if room history.at == 0 then with_reply (Some reply_is.Worn) (Journal history) ∷ []
-    else with_reply (Some (reply_to_entry entry (clock_at history (entry ∷ [])))) (taken history entry (further history.at))
+    else with_reply (Some (reply_to_entry entry (clock_at history (entry ∷ []))))
+    (taken history entry (further history.at))
     ∷ with_reply (Some reply_is.Down) (taken history entry (further history.at))
     ∷ map (λ at. with_reply (Some reply_is.Down) (moved history at)) (left_at history.at)
 
--- A device is raised: there is no bank for it; or it is answered; or the power is cut, and the history is as before or raised.
+-- A device is raised: there is no bank for it; or it is answered; or the power is cut, and the history is as before or
+-- raised.
 abbrev pub raising : History → List Outcome
 raising history =
     if history.at.number == last_bank then with_reply (Some reply_is.Worn) (Journal history) ∷ []
@@ -109,7 +112,8 @@ choice_of keys faults outcome = choice outcome.reply (state_by outcome.reply out
 -- What a device that is on, or off, may answer to an event but Power: one that is off stays as it is.
 abbrev pub after_if : Bool → (List ℕ → ℕ → ℕ) → State → Event → List Choice
 after_if true next state event =
-    map (choice_of (keys_after state.stored event state.keys) state.faults) (outcomes next state.stored state.keys event)
+    map (choice_of (keys_after state.stored event state.keys) state.faults)
+    (outcomes next state.stored state.keys event)
 after_if false next state event = choice None state ∷ []
 
 -- What a device may answer to an event, or that it answers nothing, and its state then.

@@ -4,8 +4,8 @@ use Rattle.log_check.specs.declared.Verdict.{Verdict}
 use Rattle.log_check.specs.Fits.{Marked, Fit, first_fit, after_line}
 use Rattle.log_check.specs.Verdicts.{ended_at, at_end}
 
--- How many lines there were, what fits them, and the verdict that ended the check, if one did: the lines behind that one are
--- passed over.
+-- How many lines there were, what fits them, and the verdict that ended the check, if one did: the lines behind that
+-- one are passed over.
 pub record Checked : Type 0 where
   pub lines : ℕ
   pub now : Fit

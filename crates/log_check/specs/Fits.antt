@@ -1,5 +1,5 @@
--- What fits a log so far: the steps that wait for their answers, the tables, and the states that the device may be in. The
--- tables are one for all of these states, since a command has one answer and changes nothing of a device.
+-- What fits a log so far: the steps that wait for their answers, the tables, and the states that the device may be in.
+-- The tables are one for all of these states, since a command has one answer and changes nothing of a device.
 use Rattle.std.specs.Prelude.{ℕ, Bool, true, false, not, ◌==◌, ◌&&◌, List, [], ◌∷◌, map, codes, Option, Some, None, is_none, if◌then◌else◌}
 use Rattle.std.specs.List.{filter, flat_map}
 use Rattle.std.specs.Str.{bytes_eq}
@@ -57,7 +57,8 @@ abbrev pub going_on : (List ℕ → ℕ → ℕ) → (Option Reply → Bool) →
 going_on next test event states =
     put_all [] (map (λ c. c.state) (filter (λ c. test c.reply) (choices next event states)))
 
--- Whether a device has a reply to the event: to Power always, and else where it is on, but to a key only where it is `#`.
+-- Whether a device has a reply to the event: to Power always, and else where it is on, but to a key only where it is
+-- `#`.
 abbrev pub has_reply : Event → State → Bool
 has_reply Power state = true
 has_reply (Key key) state = state.on && (key == 35)

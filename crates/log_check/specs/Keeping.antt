@@ -1,4 +1,5 @@
--- What the check keeps of the states that a device may be in: one pad for all of them, and what the flash stands for in each.
+-- What the check keeps of the states that a device may be in: one pad for all of them, and what the flash stands for in
+-- each.
 use Rattle.std.specs.Prelude.{◌≡◌, ℕ, Bool, true, false, not, List, [], ◌∷◌, ◌++◌, map, codes, Option, Some, None, if◌then◌else◌}
 use Rattle.std.specs.List.{filter, flat_map, list_any}
 use Rattle.std.specs.Str.{bytes_eq}

@@ -5,8 +5,8 @@ use Rattle.paygo_spec.specs.Pad.{Keys, kept_of}
 use Rattle.log_check.specs.declared.states.States.{States}
 use Rattle.log_check.specs.Keeping.{storeds_of, AreOnce, AreAlike, states_as}
 
--- These are the states: all have these keys and this number of faults, in all the device is on or in none, and where it is on
--- it was made in all or in none.
+-- These are the states: all have these keys and this number of faults, in all the device is on or in none, and where it
+-- is on it was made in all or in none.
 pub record AreStates (kept : States) (states : List State) : Type 0 where
   pub keys : Keys
   pub faults : ℕ

@@ -65,7 +65,8 @@ told_in (_ ∷ lines) = told_in lines
 abbrev pub summed_world : World → World
 summed_world world = record { tables = world.tables; device = summed_state world.device }
 
--- A run from this world over these steps, with answers of these texts, leads to what is this world with the history forgotten.
+-- A run from this world over these steps, with answers of these texts, leads to what is this world with the history
+-- forgotten.
 pub record Reaches (next : List ℕ → ℕ → ℕ) (start : World) (steps : List Step) (told : List (List ℕ)) (world : World)
     : Type 0 where
   pub answers : List (Option Answer)
@@ -78,7 +79,8 @@ pub record Reaches (next : List ℕ → ℕ → ℕ) (start : World) (steps : Li
 abbrev pub Has : Tables → List State → World → Type 0
 Has tables states world = (world.tables ≡ tables) × Contains states world.device
 
--- The line may come: some state is left, and where it is one that was typed no step waits, and where it is told one does.
+-- The line may come: some state is left, and where it is one that was typed no step waits, and where it is told one
+-- does.
 abbrev pub MayCome : Fit → Marked → Type 0
 MayCome old (Typed line) = (old.states ≢ []) × (old.waiting ≡ [])
 MayCome old (Told text) = (old.states ≢ []) × (old.waiting ≢ [])
@@ -89,8 +91,8 @@ abbrev pub MayAllCome : (List ℕ → ℕ → ℕ) → Fit → List Marked → T
 MayAllCome next old [] = Unit {0}
 MayAllCome next old (line ∷ lines) = MayCome old line × MayAllCome next (after_line next old line) lines
 
--- Of the steps asked for, all but those that wait were taken; and a world fits exactly where a run from empty tables and an
--- erased flash leads to it over these steps, whose answers have the texts that were told.
+-- Of the steps asked for, all but those that wait were taken; and a world fits exactly where a run from empty tables
+-- and an erased flash leads to it over these steps, whose answers have the texts that were told.
 pub record IsExact (next : List ℕ → ℕ → ℕ) (lines : List Marked) : Type 0 where
   pub steps : List Step
   pub taken : asked_in lines ≡ steps ++ (fits next lines).waiting

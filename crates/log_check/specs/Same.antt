@@ -1,4 +1,5 @@
--- When two states of a device are one, where their histories are forgotten for their summaries; and a list with each kept once.
+-- When two states of a device are one, where their histories are forgotten for their summaries; and a list with each
+-- kept once.
 use Rattle.std.specs.Prelude.{Bool, true, false, not, ◌==◌, ◌&&◌, List, [], ◌∷◌, ◌++◌, if◌then◌else◌}
 use Rattle.std.specs.List.{list_any}
 use Rattle.std.specs.Str.{bytes_eq}

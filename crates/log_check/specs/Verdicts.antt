@@ -11,7 +11,8 @@ use Rattle.log_check.specs.Logs.{IsLog, BeginsLog}
 abbrev pub counted : ℕ → ℕ
 counted n = min n (2 ^ 64 - 1)
 
--- What ends the check at the line of this number, if it does: it has no mark, no state fits any more, or more than 64 do.
+-- What ends the check at the line of this number, if it does: it has no mark, no state fits any more, or more than 64
+-- do.
 abbrev pub ended_at : ℕ → Marked → List State → Option Verdict
 ended_at n Unmarked states = Some (Unread (counted n))
 ended_at n line [] = Some (No (counted n))
@@ -26,7 +27,8 @@ at_end n waiting = No (counted (n + 1))
 abbrev pub judged : (List ℕ → ℕ → ℕ) → ℕ → Fit → List Marked → Verdict
 judged next n old [] = at_end n old.waiting
 judged next n old (line ∷ lines) =
-    unwrap_or (ended_at (n + 1) line (after_line next old line).states) (judged next (n + 1) (after_line next old line) lines)
+    unwrap_or (ended_at (n + 1) line (after_line next old line).states)
+    (judged next (n + 1) (after_line next old line) lines)
 
 -- The verdict on a log.
 abbrev pub verdict_on : (List ℕ → ℕ → ℕ) → List Marked → Verdict

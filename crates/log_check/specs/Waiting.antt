@@ -54,7 +54,8 @@ abbrev pub IsSettled : List Step → List State → Type 0
 IsSettled (Act event ∷ waiting) states = is_silent event states ≡ false
 IsSettled waiting states = Unit {0}
 
--- Of the steps that wait, the first that have no answer are taken: then these wait, and the kept states are those that fit.
+-- Of the steps that wait, the first that have no answer are taken: then these wait, and the kept states are those that
+-- fit.
 pub record SettledTo (next : List ℕ → ℕ → ℕ) (tables : Tables) (old : List State) (waiting : List Step) (kept : States)
     (left : List Step) : Type 0 where
   pub tables_are : (settled next waiting tables old).tables ≡ tables

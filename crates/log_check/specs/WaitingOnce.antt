@@ -20,7 +20,8 @@ one_of a b none (inl x) (inr y) = absurd (none x y)
 one_of a b none (inr x) (inl y) = absurd (none y x)
 
 not_digit : (key : ℕ) → (48 ≤ key) × (key ≤ 57) → (key ≡ 42) ⊎ (key ≡ 35) → ⊥
-not_digit key digit other = ⊎_elim (λ (e : key ≡ 42). omega (arith, digit.0)) (λ (e : key ≡ 35). omega (arith, digit.0)) other
+not_digit key digit other = ⊎_elim (λ (e : key ≡ 42). omega (arith, digit.0)) (λ (e : key ≡ 35). omega (arith, digit.0))
+    other
 
 not_star : (key : ℕ) → key ≡ 42 → key ≡ 35 → ⊥
 not_star key a b = omega arith

@@ -59,8 +59,8 @@ fn put_from<M: Mixer>(
     put_all_told(standings, &list, text)
 }
 
-/// What the flash may stand for behind an answer with this text, where it may stand for one of these before. Each is kept
-/// once.
+/// What the flash may stand for behind an answer with this text, where it may stand for one of these before. Each is
+/// kept once.
 pub(crate) fn standings_behind<M: Mixer>(
     alloc: Global,
     standings: &[Standing],

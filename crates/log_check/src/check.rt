@@ -7,8 +7,8 @@ use paygo_spec::Memory;
 use std::alloc::Global;
 use token_chain::Mixer;
 
-/// A check of a log that is handed to it line by line: it keeps every state of shop and device that fits the lines so far,
-/// and says at any time what it found.
+/// A check of a log that is handed to it line by line: it keeps every state of shop and device that fits the lines so
+/// far, and says at any time what it found.
 #[derive(Drop)]
 pub struct Check<M: Mixer> {
     bench: Bench<M>,
@@ -36,8 +36,8 @@ impl<M: Mixer> Check<M> {
         })
     }
 
-    /// Takes one line more of the log, of at most 4,096 bytes, without the end of the line. It is passed over where a verdict
-    /// stands. It takes memory.
+    /// Takes one line more of the log, of at most 4,096 bytes, without the end of the line. It is passed over where a
+    /// verdict stands. It takes memory.
     ///
     /// # Errors
     ///

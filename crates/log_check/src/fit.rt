@@ -5,7 +5,9 @@ ghost use Rattle.log_check.specs.WaitingOnce.{waiting_prop};
 use crate::serving::serve;
 use crate::states::States;
 use crate::sure_keeper::SureKeeper;
-use crate::waiting::{First, Waiting, behind_first, first_of, is_waiting, nothing, settle, waiting_of};
+use crate::waiting::{
+    First, Waiting, behind_first, first_of, is_waiting, nothing, settle, waiting_of,
+};
 use bench_run::Bench;
 use ledger_spec::Command;
 use ledger_text::{answer_line, fault_line};
@@ -118,7 +120,12 @@ impl Fitting {
     }
 
     // The first step that waits is a command.
-    fn did<M: Mixer>(&mut self, bench: &mut Bench<M>, command: &Command, text: &[u8]) -> Result<(), Memory>
+    fn did<M: Mixer>(
+        &mut self,
+        bench: &mut Bench<M>,
+        command: &Command,
+        text: &[u8],
+    ) -> Result<(), Memory>
         requires { IsCommand command.now }
         ensures fits { (old : Fit) → IsOk result → IsFit self.old old → old.waiting ≡ Do command.now ∷ [] →
             IsFit self.new (after_told M.next text.now old.waiting old.tables old.states) }

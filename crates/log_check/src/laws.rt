@@ -11,8 +11,8 @@ ghost use Rattle.log_check.specs.Logs.{MayAllCome, IsExact, BeginsLog, IsLog, Is
 ghost use Rattle.log_check.specs.declared.Verdict.TheVariants.{Yes};
 ghost use Rattle.log_check.specs.Verdicts.{Means, NeverWide, counted, verdict_on};
 
-/// The choices of an event: a pair of a reply, or none, and a state stands in the list exactly where the device may answer
-/// so and go on to what is this state with its history forgotten. There are at most five.
+/// The choices of an event: a pair of a reply, or none, and a state stands in the list exactly where the device may
+/// answer so and go on to what is this state with its history forgotten. There are at most five.
 pub fn choices_are_allowed()
     ensures five { (next : List ℕ → ℕ → ℕ) (state : State) (event : Event) → length (after next state event) ≤ 5 }
     ensures allowed { (next : List ℕ → ℕ → ℕ) (event : Event) (old state : State) (reply : Option Reply) →
@@ -20,14 +20,14 @@ pub fn choices_are_allowed()
         ((new : State) × Acts next event reply old new × (state ≡ summed_state new))) }
 {}
 
-/// What fits a log: as long as every line may come, a world fits exactly where a run over the steps taken, whose answers have
-/// the texts told, leads to it.
+/// What fits a log: as long as every line may come, a world fits exactly where a run over the steps taken, whose
+/// answers have the texts told, leads to it.
 pub fn fits_are_exact()
     ensures { (next : List ℕ → ℕ → ℕ) (lines : List Marked) → MayAllCome next first_fit lines → IsExact next lines }
 {}
 
-/// Some state fits lines exactly where they are the first ones of the log of a run; and they are a whole log exactly where
-/// some state fits and no step waits.
+/// Some state fits lines exactly where they are the first ones of the log of a run; and they are a whole log exactly
+/// where some state fits and no step waits.
 pub fn logs_fit()
     ensures begins { (next : List ℕ → ℕ → ℕ) (lines : List Marked) →
         (((state : State) × Contains (fits next lines).states state) ↔ BeginsLog next lines) }
@@ -46,8 +46,8 @@ pub fn verdicts_mean()
     ensures means { (next : List ℕ → ℕ → ℕ) (lines : List Marked) → Means next lines (verdict_on next lines) }
 {}
 
-/// A log of a run is one run over all the steps that its lines ask for, and what that writes is what the log tells. So a yes
-/// implies that the log is a run.
+/// A log of a run is one run over all the steps that its lines ask for, and what that writes is what the log tells. So
+/// a yes implies that the log is a run.
 pub fn logs_are_runs()
     ensures { (next : List ℕ → ℕ → ℕ) (lines : List Marked) → IsLog next lines → IsRun next lines }
 {}

@@ -16,7 +16,8 @@ mod waiting;
 
 pub use check::Check;
 pub use laws::{
-    checks_give_verdicts, choices_are_allowed, fits_are_exact, logs_are_runs, logs_fit, verdicts_mean,
+    checks_give_verdicts, choices_are_allowed, fits_are_exact, logs_are_runs, logs_fit,
+    verdicts_mean,
 };
 pub use outcomes::{Foreseen, foretell, says};
 pub use standing::{Made, Standing};
@@ -26,8 +27,8 @@ pub use standing::{Made, Standing};
 pub enum Verdict {
     /// It is the whole log of a run, and has so many lines.
     Yes { lines: u64 },
-    /// The lines before this one are the first ones of the log of some run, and with this one they aren't. Where only answers
-    /// are missing at the end, it is the line behind the last one.
+    /// The lines before this one are the first ones of the log of some run, and with this one they aren't. Where only
+    /// answers are missing at the end, it is the line behind the last one.
     No { line: u64 },
     /// Behind this line the device may be in more than 64 states.
     Wide { line: u64 },

@@ -14,15 +14,16 @@ ghost use Rattle.log_check.specs.Standing.{history_of, journal_of, stored_of, ou
 use crate::standing::{Made, Standing};
 use device_core::{Decision, decide, line, reply_to};
 use keypad_entry::Pad;
-use paygo_spec::Memory;
-use paygo_spec::{Config, Entry, Event, Reply};
+use paygo_spec::{Config, Entry, Event, Memory, Reply};
 use std::alloc::Global;
 use token_chain::Mixer;
 
 /// A reply, or none, and what the flash stands for then.
 #[derive(Clone, Copy, Debug)]
 pub struct Foreseen {
+    /// The reply; None where the device answers nothing.
     pub reply: Option<Reply>,
+    /// What the flash stands for then.
     pub standing: Standing,
 }
 
@@ -218,8 +219,14 @@ fn powering(alloc: Global, standing: &Standing) -> Result<Vec<Foreseen>, Memory>
     listed(alloc, &[up, down])
 }
 
-// What a device that is on may answer to an event, or one that is off when its power comes, and what its flash stands for
-// then, in the order of the specification.
+/// What a device that is on may answer to an event, or one that is off to `Power`, and what its flash stands for then: at
+/// most five pairs, the one without a power cut first. It takes memory.
+///
+/// The caller sees to it that what the flash stands for is in range, and that the event may be asked for.
+///
+/// # Errors
+///
+/// `Memory` where there is none.
 pub fn foretell<M: Mixer>(
     alloc: Global,
     standing: &Standing,

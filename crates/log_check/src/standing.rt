@@ -13,20 +13,26 @@ ghost use Rattle.log_check.specs.declared.standing.Standing.TheVariants.{Made as
 use bank_journal::{Journal, Summary};
 use paygo_spec::{Config, DAY, Entry};
 
-/// A device that was made: its configuration, the number of the bank in use, the place of the next entry, and the summary of its
-/// history.
+/// A device that was made: its configuration, the number of the bank in use, the place of the next entry, and the
+/// summary of its history.
 #[derive(Clone, Copy, Debug, PartialEq, Eq)]
 pub struct Made {
+    /// The configuration.
     pub config: Config,
+    /// The number of the bank in use, from 1 to 100,000.
     pub number: u32,
+    /// The place of the next entry in its bank, from 12 to 512; at 512 the next one goes to the next bank.
     pub place: u16,
+    /// The summary of its history.
     pub summary: Summary,
 }
 
 /// What a flash may stand for that was erased once: no device was made on it, or one was.
 #[derive(Clone, Copy, Debug, PartialEq, Eq)]
 pub enum Standing {
+    /// No device was made on it.
     Blank,
+    /// A device was made on it.
     Made(Made),
 }
 

@@ -10,8 +10,8 @@ use paygo_spec::{Event, Memory};
 use std::alloc::Global;
 use token_chain::Mixer;
 
-/// The states that a device may be in, of which its answers tell no more. It is on in all of them or in none, and its pad
-/// keeps the same in all. They differ in what its flash stands for, and each is kept once.
+/// The states that a device may be in, of which its answers tell no more. It is on in all of them or in none, and its
+/// pad keeps the same in all. They differ in what its flash stands for, and each is kept once.
 #[derive(Drop)]
 pub(crate) struct States {
     on: bool,

@@ -41,7 +41,11 @@ fn a_log_with_a_cut(rt: HostRuntime) {
     let alloc = rt.alloc();
     let right = verdict(&rt, alloc, &[a, b, c, d, e, f, g, h, i, b"< old"]);
     assert_eq!(rt; right, Verdict::Yes { lines: 10 });
-    let wrong = verdict(&rt, alloc, &[a, b, c, d, e, f, g, h, i, b"< set 1 30 2592000"]);
+    let wrong = verdict(
+        &rt,
+        alloc,
+        &[a, b, c, d, e, f, g, h, i, b"< set 1 30 2592000"],
+    );
     assert_eq!(rt; wrong, Verdict::No { line: 10 });
     assert_eq!(rt; verdict(&rt, alloc, &FRONT), Verdict::No { line: 10 });
     let unmarked = verdict(&rt, alloc, &[b"power", b, c, d, e, f, g, h, i, b"< old"]);
@@ -58,19 +62,58 @@ fn a_cut_entry_that_does_not_count(rt: HostRuntime) {
     let spent = verdict(
         &rt,
         alloc,
-        &[a, b, c, d, e, f, g, up, i, set, b"> show", b"< shown 1 2592000 0 0 0 49999998"],
+        &[
+            a,
+            b,
+            c,
+            d,
+            e,
+            f,
+            g,
+            up,
+            i,
+            set,
+            b"> show",
+            b"< shown 1 2592000 0 0 0 49999998",
+        ],
     );
     assert_eq!(rt; spent, Verdict::Yes { lines: 12 });
     let unspent = verdict(
         &rt,
         alloc,
-        &[a, b, c, d, e, f, g, up, i, set, b"> show", b"< shown 1 2592000 0 0 0 49999999"],
+        &[
+            a,
+            b,
+            c,
+            d,
+            e,
+            f,
+            g,
+            up,
+            i,
+            set,
+            b"> show",
+            b"< shown 1 2592000 0 0 0 49999999",
+        ],
     );
     assert_eq!(rt; unspent, Verdict::Yes { lines: 12 });
     let neither = verdict(
         &rt,
         alloc,
-        &[a, b, c, d, e, f, g, up, i, set, b"> show", b"< shown 1 2592000 0 0 0 49999997"],
+        &[
+            a,
+            b,
+            c,
+            d,
+            e,
+            f,
+            g,
+            up,
+            i,
+            set,
+            b"> show",
+            b"< shown 1 2592000 0 0 0 49999997",
+        ],
     );
     assert_eq!(rt; neither, Verdict::No { line: 12 });
 }
@@ -81,7 +124,16 @@ fn keys_on_more_lines(rt: HostRuntime) {
     let [a, b, c, d, ..] = FRONT;
     let alloc = rt.alloc();
     let set: &[u8] = b"< set 1 30 2592000";
-    let lines: [&[u8]; 8] = [a, b, c, d, b"> keys 12 345", b"> keys 6789*1234", b"> keys 63819#", set];
+    let lines: [&[u8]; 8] = [
+        a,
+        b,
+        c,
+        d,
+        b"> keys 12 345",
+        b"> keys 6789*1234",
+        b"> keys 63819#",
+        set,
+    ];
     assert_eq!(rt; verdict(&rt, alloc, &lines), Verdict::Yes { lines: 8 });
     let twice: [&[u8]; 7] = [a, b, c, d, b"> keys 12#123463819#", b"< length 2", set];
     assert_eq!(rt; verdict(&rt, alloc, &twice), Verdict::Yes { lines: 7 });
@@ -126,7 +178,10 @@ fn a_byte_13_at_the_end(rt: HostRuntime) {
 #[test]
 fn lines_that_cannot_be_read(rt: HostRuntime) {
     let alloc = rt.alloc();
-    assert_eq!(rt; verdict(&rt, alloc, &[b">power"]), Verdict::Unread { line: 1 });
+    assert_eq!(rt;
+        verdict(&rt, alloc, &[b">power"]),
+        Verdict::Unread { line: 1 }
+    );
     assert_eq!(rt; verdict(&rt, alloc, &[b"<"]), Verdict::Unread { line: 1 });
     assert_eq!(rt; verdict(&rt, alloc, &[b""]), Verdict::Unread { line: 1 });
     let most = [b'>'; 4097];
@@ -136,20 +191,26 @@ fn lines_that_cannot_be_read(rt: HostRuntime) {
     assert_eq!(rt; verdict(&rt, alloc, &waiting), Verdict::Unread { line: 2 });
 }
 
-/// Entries that are cut off one after another: behind the 32nd, the device may be at 33 places, or at 32 with the entry.
+/// Entries that are cut off one after another: behind the 32nd, the device may be at 33 places, or at 32 with the
+/// entry.
 #[test]
 fn many_cuts(rt: HostRuntime) {
-    let mut check: Check<Stride<7>> = Check::new(rt.alloc()).ok().expect(&rt, "memory for a check");
+    let mut check: Check<Stride<7>> = Check::new(rt.alloc())
+        .ok()
+        .expect(&rt, "memory for a check");
     let [a, b, c, d, ..] = FRONT;
     for line in [a, b, c, d] {
         hand(&rt, &mut check, line);
     }
-    let mut rounds = 0;
-    while rounds < 31 {
-        for line in [b"> keys 123463810#".as_slice(), b"< down", b"> power", b"< up 0 0 0"] {
+    for _ in 0..31 {
+        for line in [
+            b"> keys 123463810#".as_slice(),
+            b"< down",
+            b"> power",
+            b"< up 0 0 0",
+        ] {
             hand(&rt, &mut check, line);
         }
-        rounds += 1;
     }
     assert_eq!(rt; check.verdict(), Verdict::Yes { lines: 128 });
     hand(&rt, &mut check, b"> keys 123463810#");

@@ -13,7 +13,8 @@ put_told-requires c =
 
 pub loop-foreseen-preserved : goal.loop-foreseen-preserved
 loop-foreseen-preserved c = record {
-  puts = gather_more c.args.text.now (storeds_of c.args.standings.now.items) (storeds_of c.loop-foreseen.standings.items)
+  puts = gather_more c.args.text.now (storeds_of c.args.standings.now.items)
+      (storeds_of c.loop-foreseen.standings.items)
       (storeds_of c.put_told.new.standings.items) c.args.list.now c.loop-foreseen.foreseen-index c.foreseen-item.result
       c.loop-foreseen-test.true c.foreseen-item.is c.loop-foreseen.invariant.puts c.in_ok-put_told.ensures.puts;
   range = λ are. c.in_ok-put_told.ensures.range (c.loop-foreseen.invariant.range are);

@@ -5,6 +5,7 @@ use Rattle.log_check.proofs.behind.put_all_told.Given as goal
 
 abbrev pub invariant-loop-foreseen : goal.invariant-loop-foreseen
 invariant-loop-foreseen l = record {
-  puts : storeds_of l.standings.items ≡ put_storeds (storeds_of l.fn.standings.items) (told_by l.text (map outcome_of (take l.foreseen-index l.list)));
+  puts : storeds_of l.standings.items ≡ put_storeds (storeds_of l.fn.standings.items)
+      (told_by l.text (map outcome_of (take l.foreseen-index l.list)));
   range : AreStandings l.fn.standings.items → AreStandings l.standings.items;
 }

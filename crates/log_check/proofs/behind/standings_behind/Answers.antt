@@ -12,8 +12,11 @@ put_from-requires-clause-range g c =
 
 pub loop-standing-preserved : goal.loop-standing-preserved
 loop-standing-preserved g c = record {
-  puts = λ keys pad. goes_more g.M.Mixer.next c.args.text.now c.args.event keys (storeds_of c.loop-standing.behind.items)
-      (storeds_of c.put_from.new.standings.items) c.args.standings.now c.loop-standing.standing-index c.standing-item.result
-      c.loop-standing-test.true c.standing-item.is (c.loop-standing.invariant.puts keys pad) (c.in_ok-put_from.ensures.puts keys pad);
+  puts = λ keys pad. goes_more g.M.Mixer.next c.args.text.now c.args.event keys
+      (storeds_of c.loop-standing.behind.items)
+      (storeds_of c.put_from.new.standings.items) c.args.standings.now c.loop-standing.standing-index
+      c.standing-item.result
+      c.loop-standing-test.true c.standing-item.is (c.loop-standing.invariant.puts keys pad)
+      (c.in_ok-put_from.ensures.puts keys pad);
   range = c.in_ok-put_from.ensures.range c.loop-standing.invariant.range;
 }

@@ -12,5 +12,6 @@ returns-clause-five c = at_most_five
 pub returns-clause-allowed : goal.returns-clause-allowed
 returns-clause-allowed c next event old state reply = (
   λ h. after_may next event old (choice reply state) h,
-  λ h. subst (λ (s : State). Contains (after next (summed_state old) event) (choice reply s)) (sym h.2) (may_after next event old reply h.0 h.1),
+  λ h. subst (λ (s : State). Contains (after next (summed_state old) event) (choice reply s)) (sym h.2)
+      (may_after next event old reply h.0 h.1),
 )

@@ -12,6 +12,8 @@ returns-clause-outcomes g c keys held =
     let history = history_of c.args.made.now in
     let next = g.M.Mixer.next in
     let effect = effect_of next history keys c.args.event in
-    ok_if (λ list. map outcome_of list.items ≡ by_decision history c.decide-decision.result) (λ list. map outcome_of list.items ≡ by_effect history effect) c.decided.result
-    (λ list e. e ∙ ap (by_decision history) (c.decide-decision.ensures.decision keys held ∙ ap (λ j. decided next j keys c.args.event) c.journal-journal.ensures) ∙ by_decision_of history effect)
+    ok_if (λ list. map outcome_of list.items ≡ by_decision history c.decide-decision.result)
+    (λ list. map outcome_of list.items ≡ by_effect history effect) c.decided.result
+    (λ list e. e ∙ ap (by_decision history) (c.decide-decision.ensures.decision keys held
+    ∙ ap (λ j. decided next j keys c.args.event) c.journal-journal.ensures) ∙ by_decision_of history effect)
     c.decided.ensures.outcomes

@@ -20,7 +20,8 @@ returns-in-Ok-clause-puts c =
     let one = c.args.standing.now in
     let among : list_any (λ other. same_stored (stored_of one) (stored_of other)) list ≡ false = search rules in
     let more : c.push.new.self.items ≡ list ++ one ∷ [] = search rules in
-    ap storeds_of more ∙ map-append stored_of list (one ∷ []) ∙ sym (put_new (storeds_of list) (stored_of one) (among_is list one false among))
+    ap storeds_of more ∙ map-append stored_of list (one ∷ [])
+    ∙ sym (put_new (storeds_of list) (stored_of one) (among_is list one false among))
 
 pub returns-in-Ok-clause-range : goal.returns-in-Ok-clause-range
 returns-in-Ok-clause-range c are one =

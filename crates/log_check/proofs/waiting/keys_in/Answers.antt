@@ -8,7 +8,8 @@ use Rattle.log_check.proofs.waiting.keys_in.Goals as goal
 pub loop-key-preserved : goal.loop-key-preserved
 loop-key-preserved c = record {
   rest = keys_behind c.args.text.now c.loop-key.key-index c.loop-key-test.true c.loop-key.invariant.rest;
-  pressed = presses_more c.args.text.now c.loop-key.key-index c.loop-key.events.items c.press.new.events.items c.loop-key-test.true
+  pressed = presses_more c.args.text.now c.loop-key.key-index c.loop-key.events.items c.press.new.events.items
+      c.loop-key-test.true
       c.loop-key.invariant.pressed c.in_ok-press.ensures.events;
   range = c.in_ok-press.ensures.range c.loop-key.invariant.range;
 }

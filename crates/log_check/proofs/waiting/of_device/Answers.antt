@@ -13,5 +13,5 @@ returns-in-None-clause-steps c = sym (steps_unread mode.Both c.args.text.now bot
 pub returns-in-Some-One-clause-steps : goal.returns-in-Some-One-clause-steps
 returns-in-Some-One-clause-steps c =
     let value = rw c.in-Some-One.field-0-is at c.in-Some-One.ensures.value in
-    subst (λ (steps : List Step). IfOk c.one.result (λ w. steps_of w ≡ steps)) (sym (steps_asked mode.Both c.args.text.now both_takes_device _ value)) c.one.ensures.steps
-
+    subst (λ (steps : List Step). IfOk c.one.result (λ w. steps_of w ≡ steps))
+    (sym (steps_asked mode.Both c.args.text.now both_takes_device _ value)) c.one.ensures.steps

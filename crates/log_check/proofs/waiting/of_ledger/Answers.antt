@@ -7,9 +7,11 @@ use Rattle.log_check.proofs.waiting.of_ledger.Goals as goal
 
 pub returns-in-Ok-clause-steps : goal.returns-in-Ok-clause-steps
 returns-in-Ok-clause-steps c =
-    sym (steps_read mode.Both c.args.text.now (Ok c.in-Ok.command) both_takes_ledger (read_ok c.args.text.now c.in-Ok.command c.in-Ok.ensures.value))
+    sym (steps_read mode.Both c.args.text.now (Ok c.in-Ok.command) both_takes_ledger
+    (read_ok c.args.text.now c.in-Ok.command c.in-Ok.ensures.value))
 
 pub returns-in-Err-clause-steps : goal.returns-in-Err-clause-steps
 returns-in-Err-clause-steps c =
     let other : c.in-Err.fault ≢ text_fault.Memory = search rules in
-    sym (steps_read mode.Both c.args.text.now (Err c.in-Err.fault) both_takes_ledger (read_fault c.args.text.now c.in-Err.fault other c.in-Err.ensures.value))
+    sym (steps_read mode.Both c.args.text.now (Err c.in-Err.fault) both_takes_ledger
+    (read_fault c.args.text.now c.in-Err.fault other c.in-Err.ensures.value))

@@ -8,5 +8,6 @@ use Rattle.log_check.proofs.waiting.settle.Goals as goal
 
 pub returns-in-Unread-clause-settled : goal.returns-in-Unread-clause-settled
 returns-in-Unread-clause-settled c next tables old are =
-    subst (λ (w : Waiting). SettledTo next tables old (steps_of w) c.args.states.now (Say (codes "unread") ∷ [])) (sym c.in-Unread.is)
+    subst (λ (w : Waiting). SettledTo next tables old (steps_of w) c.args.states.now (Say (codes "unread") ∷ []))
+    (sym c.in-Unread.is)
     (settles_say next tables (codes "unread") old c.args.states.now are)

@@ -16,11 +16,13 @@ returns-then-text-eq123-clause-steps c =
     let some : length c.trimmed-text.result.now ≢ 0 = search rules in
     let first : get_or c.trimmed-text.result.now 0 0 ≡ 123 = search rules in
     subst (λ (steps : List Step). IfOk c.of_ledger.result (λ w. steps_of w ≡ steps))
-    (sym (steps_ledger mode.Both c.args.line.now c.trimmed-text.result.now c.requires c.trimmed-text.ensures some first)) c.of_ledger.ensures.steps
+    (sym (steps_ledger mode.Both c.args.line.now c.trimmed-text.result.now c.requires c.trimmed-text.ensures some
+    first)) c.of_ledger.ensures.steps
 
 pub returns-clause-steps : goal.returns-clause-steps
 returns-clause-steps c =
     let some : length c.trimmed-text.result.now ≢ 0 = search rules in
     let first : get_or c.trimmed-text.result.now 0 0 ≢ 123 = search rules in
     subst (λ (steps : List Step). IfOk c.of_device.result (λ w. steps_of w ≡ steps))
-    (sym (steps_device mode.Both c.args.line.now c.trimmed-text.result.now c.requires c.trimmed-text.ensures some first)) c.of_device.ensures.steps
+    (sym (steps_device mode.Both c.args.line.now c.trimmed-text.result.now c.requires c.trimmed-text.ensures some
+    first)) c.of_device.ensures.steps

@@ -13,5 +13,6 @@ returns-clause-line g c old ok none holds =
     let text = c.args.text.now in
     let fits : IsOk c.told.result = search rules in
     subst (λ (e : Option Verdict). Holds c.judge.new.self (with_line_if e next old (Told text))) (sym none)
-    (c.judge.ensures old.lines (Told text) (after_told next text old.now.waiting old.now.tables old.now.states) (told_marks text) holds.lines
+    (c.judge.ensures old.lines (Told text) (after_told next text old.now.waiting old.now.tables old.now.states)
+    (told_marks text) holds.lines
     (c.told.ensures.fits old.now fits (holds.fits none)))

@@ -12,5 +12,6 @@ returns-clause-line c next old ok none holds =
     let line = c.args.line.now in
     let fits : IsOk c.typed.result = search rules in
     subst (λ (e : Option Verdict). Holds c.judge.new.self (with_line_if e next old (Typed line))) (sym none)
-    (c.judge.ensures old.lines (Typed line) (after_typed next line old.now.waiting old.now.tables old.now.states) (typed_marks line) holds.lines
+    (c.judge.ensures old.lines (Typed line) (after_typed next line old.now.waiting old.now.tables old.now.states)
+    (typed_marks line) holds.lines
     (c.typed.ensures.fits next old.now fits (holds.fits none)))

@@ -12,5 +12,6 @@ pub returns-clause-stands : goal.returns-clause-stands
 returns-clause-stands c =
     let made = c.args.self.now in
     let unit = unit_for (history_of made) in
-    grown c.turned-next.result made c.raised-next.result Raised (turned (history_of made).at) c.turned-next.ensures.stands c.turned-next.ensures.config
+    grown c.turned-next.result made c.raised-next.result Raised (turned (history_of made).at)
+    c.turned-next.ensures.stands c.turned-next.ensures.config
     (c.raised-next.ensures unit ∙ ap (λ s. snapshot unit (summary_of s) (Raised ∷ [])) c.turned-next.ensures.summary)

@@ -13,4 +13,6 @@ pub returns : goal.returns
 returns c next states are silent =
     let on : c.args.self.now.on ≡ true = search rules in
     passed_on next c.args.self.now c.args.event states are _ silent on on refl
-    (λ keys pad. c.heard-self.ensures keys (first_of (storeds_of c.args.self.now.standings.items)) pad (sym (c.is_first_made-made.ensures ∙ ap (λ (l : List Standing). first_is_made (storeds_of l)) c.deref.ensures.value)))
+    (λ keys pad. c.heard-self.ensures keys (first_of (storeds_of c.args.self.now.standings.items)) pad
+    (sym (c.is_first_made-made.ensures ∙ ap (λ (l : List Standing). first_is_made (storeds_of l))
+    c.deref.ensures.value)))
