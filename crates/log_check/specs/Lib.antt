@@ -1,0 +1,16 @@
+pub mod After
+pub mod Same
+pub mod Fits
+pub mod Logs
+pub mod Verdicts
+pub mod Standing
+pub mod Keeping
+pub mod Checking
+pub mod KeptOnce
+pub mod Kept
+pub mod Sure
+pub mod SureTables
+pub mod Waiting
+pub mod WaitingOnce
+pub mod FitKept
+pub mod Holding
