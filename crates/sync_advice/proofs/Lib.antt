@@ -1,4 +1,5 @@
 pub mod Climbing
+pub mod Placing
 pub mod Finding
 pub mod Bringing
 pub mod Behind

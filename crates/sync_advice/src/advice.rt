@@ -1,6 +1,8 @@
 // The advice to a customer whose device fell behind.
-ghost use Rattle.std.specs.Prelude.{◌≡◌, ◌<◌, ◌≤◌, Err, IfOk, IfErr, OnErr, OnOk, MatchOption, IfSome, length};
-ghost use Rattle.sync_advice.specs.Advice.{order_with, last_count, reaches, step_of, IsFar, IsEnd, Climbs, Stops};
+ghost use Rattle.std.specs.Prelude.{◌≡◌, ◌≤◌, List, None, IfOk, MatchOption, IfSome, get_or};
+ghost use Rattle.ledger_spec.specs.declared.Order.{Order};
+ghost use Rattle.sync_advice.specs.Advice.{last_count, reaches, step_of, IsFar, IsEnd};
+ghost use Rattle.sync_advice.specs.Places.{AreFirst};
 ghost use Rattle.sync_advice.specs.Typing.{BringsUp, BringsItself, IsShortest, NoneBrings};
 ghost use Rattle.sync_advice.specs.Answers.{AnswersAs, IfList, IfGap};
 
@@ -33,18 +35,6 @@ fn step_of(value: u16) -> u16
     if value == 999 { 100 } else { 64 }
 }
 
-/// The first order of a count.
-fn order_with(orders: &[Order], count: u16) -> Option<Order>
-    ensures { result ≡ order_with orders.now count }
-{
-    for order in orders {
-        if order.count == count {
-            return Some(*order);
-        }
-    }
-    None
-}
-
 /// The greatest count of the orders, or 0.
 fn last_count(orders: &[Order]) -> u16
     ensures { result ≡ last_count orders.now }
@@ -56,6 +46,28 @@ fn last_count(orders: &[Order]) -> u16
     last
 }
 
+/// The first order of each count up to the greatest one, at the place of the count. None where there was no memory.
+fn first_orders(alloc: Global, orders: &[Order], last: u16) -> Option<Vec<Option<Order>>>
+    requires { last ≡ last_count orders.now }
+    ensures { IfSome result (λ firsts. AreFirst orders.now firsts.items) }
+{
+    let mut firsts = vec![in alloc; None; usize::from(last) + 1].ok()?;
+    for order in orders {
+        let place = usize::from(order.count);
+        if firsts[place].is_none() {
+            firsts[place] = Some(*order);
+        }
+    }
+    Some(firsts)
+}
+
+/// The order of a count among the first ones.
+fn order_at(firsts: &[Option<Order>], count: u16) -> Option<Order>
+    ensures { result ≡ get_or firsts.now count None }
+{
+    *firsts.get(usize::from(count))?
+}
+
 /// Whether a device with this last count takes the token of the order, and goes on by it.
 fn reaches(limit: u16, from: u16, order: &Order) -> bool
     ensures { result ≡ reaches limit from order.now }
@@ -63,13 +75,14 @@ fn reaches(limit: u16, from: u16, order: &Order) -> bool
     from < order.count && order.count <= limit.min(from.saturating_add(step_of(order.value)))
 }
 
-/// The order that leads farthest from a count.
-fn far(orders: &[Order], limit: u16, from: u16) -> Option<Order>
-    ensures { MatchOption result (IsEnd orders.now limit from) (λ order. IsFar orders.now limit from order) }
+/// The order that leads farthest from a count. It looks at a hundred counts at most, however many orders there are.
+fn far(firsts: &[Option<Order>], limit: u16, from: u16) -> Option<Order>
+    ensures { (orders : List Order) → AreFirst orders firsts.now →
+        MatchOption result (IsEnd orders limit from) (λ order. IsFar orders limit from order) }
 {
     let mut count = limit.min(from.saturating_add(100));
     while count > from {
-        if let Some(order) = order_with(orders, count)
+        if let Some(order) = order_at(firsts, count)
             && reaches(limit, from, &order)
         {
             return Some(order);
@@ -83,7 +96,7 @@ fn far(orders: &[Order], limit: u16, from: u16) -> Option<Order>
 ///
 /// # Errors
 ///
-/// `Above` exactly where the floor is above the greatest count of the orders. `Memory` where there was none for the list.
+/// `Above` exactly where the floor is above the greatest count of the orders. `Memory` where there was none for the list, or to put the orders in their places.
 pub fn advise(
     alloc: Global,
     orders: &[Order],
@@ -100,10 +113,13 @@ pub fn advise(
     if floor > last {
         return Err(AdviceFault::Above { last });
     }
+    let Some(firsts) = first_orders(alloc, orders, last) else {
+        return Err(AdviceFault::Memory);
+    };
     let mut list = Vec::new(alloc);
     let mut at = floor;
     while at < last {
-        let order = match far(orders, limit, at) {
+        let order = match far(&firsts, limit, at) {
             Some(order) => order,
             None => return Ok(Advice::Gap { count: at }),
         };
