@@ -4,3 +4,4 @@ pub mod Finding
 pub mod Bringing
 pub mod Behind
 pub mod Sold
+pub mod Only

@@ -1,5 +1,5 @@
 // The advice to a customer whose device fell behind.
-ghost use Rattle.std.specs.Prelude.{◌≡◌, ◌≤◌, List, None, IfOk, MatchOption, IfSome, get_or};
+ghost use Rattle.std.specs.Prelude.{◌≡◌, ◌<◌, ◌≤◌, List, Some, None, IfOk, IsSome, MatchOption, IfSome, length, get_or, slice_set};
 ghost use Rattle.ledger_spec.specs.declared.Order.{Order};
 ghost use Rattle.sync_advice.specs.Advice.{last_count, reaches, step_of, IsFar, IsEnd};
 ghost use Rattle.sync_advice.specs.Places.{AreFirst};
@@ -23,7 +23,7 @@ pub enum Advice {
 pub enum AdviceFault {
     /// The floor is above the greatest count of the orders, which is `last`.
     Above { last: u16 },
-    /// There was no memory for the list.
+    /// There was no memory for the list, or to put the orders by their counts.
     Memory,
 }
 
@@ -46,6 +46,19 @@ fn last_count(orders: &[Order]) -> u16
     last
 }
 
+/// Puts an order at the place of its count, unless an earlier one stands there.
+fn put(firsts: &mut [Option<Order>], order: &Order)
+    requires { order.now.count < length firsts.old }
+    ensures first { get_or firsts.old order.now.count None ≡ None →
+        firsts.new ≡ slice_set firsts.old order.now.count (Some order.now) }
+    ensures later { IsSome (get_or firsts.old order.now.count None) → firsts.new ≡ firsts.old }
+{
+    let place = usize::from(order.count);
+    if firsts[place].is_none() {
+        firsts[place] = Some(*order);
+    }
+}
+
 /// The first order of each count up to the greatest one, at the place of the count. None where there was no memory.
 fn first_orders(alloc: Global, orders: &[Order], last: u16) -> Option<Vec<Option<Order>>>
     requires { last ≡ last_count orders.now }
@@ -53,10 +66,7 @@ fn first_orders(alloc: Global, orders: &[Order], last: u16) -> Option<Vec<Option
 {
     let mut firsts = vec![in alloc; None; usize::from(last) + 1].ok()?;
     for order in orders {
-        let place = usize::from(order.count);
-        if firsts[place].is_none() {
-            firsts[place] = Some(*order);
-        }
+        put(&mut firsts, order);
     }
     Some(firsts)
 }
@@ -92,11 +102,14 @@ fn far(firsts: &[Option<Order>], limit: u16, from: u16) -> Option<Order>
     None
 }
 
-/// The tokens by which a device comes up to date whose last count is at least `floor`.
+/// The tokens by which a device comes up to date whose last count is at least `floor` and whose limit is at least
+/// `limit`. The orders stand in any order, and of several with one count the first alone counts. They are gone through
+/// twice; then it looks at a hundred counts at most for each token that it advises.
 ///
 /// # Errors
 ///
-/// `Above` exactly where the floor is above the greatest count of the orders. `Memory` where there was none for the list, or to put the orders in their places.
+/// `Above` exactly where the floor is above the greatest count of the orders. `Memory` where there was none for the
+/// list, or to put the orders by their counts.
 pub fn advise(
     alloc: Global,
     orders: &[Order],

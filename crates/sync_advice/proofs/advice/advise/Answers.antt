@@ -1,4 +1,4 @@
-use Rattle.std.proofs.Common.{ℕ, List, Option, ◌≡◌, ◌<◌, ◌≤◌, sym, subst, ◌∙◌, arith}
+use Rattle.std.proofs.Common.{List, Option, ◌≤◌, sym, subst, arith}
 use Rattle.ledger_spec.specs.declared.Order.{Order}
 use Rattle.sync_advice.specs.Advice.{Climbs, last_count}
 use Rattle.sync_advice.specs.Places.{AreFirst}

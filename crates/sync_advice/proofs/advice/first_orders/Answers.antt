@@ -1,30 +1,26 @@
-use Rattle.std.proofs.Common.{◌≡◌, ℕ, ◌<◌, ◌∙◌, sym, not, ap, subst}
-use Rattle.std.proofs.lemmas.List.{length-set}
-use Rattle.sync_advice.proofs.Placing.{place_below, passed_by, put_there}
+use Rattle.std.proofs.Common.{◌∙◌, List, Option, drop, length, sym, ap, subst}
+use Rattle.ledger_spec.specs.declared.Order.{Order}
+use Rattle.sync_advice.proofs.Placing.{ArePlaced, place_below, placed_by, table_is}
 use Rattle.sync_advice.proofs.advice.first_orders.Goals as goal
-use Rattle.sync_advice.proofs.advice.first_orders.Goals.{then-is_none, else-is_none}
 
-pub index-requires : goal.index-requires
-index-requires c = subst (λ (n : ℕ). c.from-place.result < n) (sym c.loop-order.firsts.ok.0) (place_below _ _ _ _ c.loop-order-test.true c.order-item.is c.from-place.ensures _ c.loop-order.firsts.items c.requires c.loop-order.invariant.size)
-
-pub index_mut-requires : goal.index_mut-requires
-index_mut-requires c = subst (λ (n : ℕ). c.from-place.result < n) (sym c.loop-order.firsts.ok.0) (place_below _ _ _ _ c.loop-order-test.true c.order-item.is c.from-place.ensures _ c.loop-order.firsts.items c.requires c.loop-order.invariant.size)
+pub put-requires : goal.put-requires
+put-requires c =
+    place_below _ _ _ c.loop-order-test.true c.order-item.is _ c.deref_mut.result.now c.requires
+    (ap length c.deref_mut.ensures.value ∙ c.loop-order.invariant.size)
 
 pub loop-order-preserved : goal.loop-order-preserved
 loop-order-preserved c =
     let within = c.loop-order-test.true in
     let is = c.order-item.is in
-    let at = c.from-place.ensures in
-    let size = c.loop-order.invariant.size in
-    let placed = c.loop-order.invariant.placed in
-    let below = place_below _ _ _ _ within is at _ c.loop-order.firsts.items c.requires size in
-    elim c.if-is_none.branch [
-      | then-is_none w ↦ rw w.firsts-is (record {
-        size = length-set _ _ _ ∙ size;
-        placed = put_there _ _ _ _ within is at _ _ below c.index.ensures placed (c.is_none.ensures ∙ ap not w.if-is_none.true);
-      })
-      | else-is_none w ↦ rw w.firsts-is (record {
-        size = size;
-        placed = passed_by _ _ _ _ within is at _ _ below c.index.ensures placed (c.is_none.ensures ∙ ap not w.if-is_none.false);
-      })
-    ]
+    let same = c.deref_mut.ensures.value in
+    let size = ap length same ∙ c.loop-order.invariant.size in
+    let left = drop c.loop-order.order-index c.args.orders.now in
+    let placed = subst (λ (firsts : List (Option Order)). ArePlaced c.args.orders.now firsts left) (sym same)
+    c.loop-order.invariant.placed in
+    let below = place_below _ _ _ within is _ c.deref_mut.result.now c.requires size in
+    let after = placed_by _ _ _ within is c.deref_mut.result.now c.put.new.firsts below c.put.ensures.first
+    c.put.ensures.later placed in
+    let rest = drop (length c.put.new.firsts) c.loop-order.firsts.items in
+    let long = after.0 ∙ ap length same ∙ sym c.loop-order.firsts.ok.0 in
+    rw (table_is c.loop-order.firsts.len c.put.new.firsts rest long)
+    (record { size = after.0 ∙ size; placed = after.1 })
