@@ -161,21 +161,33 @@ fn keys(
     Ok(lines)
 }
 
-/// Whether these are the answers to so many entries, each of which took a token, or is one that was taken before.
+/// Whether this begins with the answer to an entry that took a token, or is one that was taken before.
+fn is_taken(answer: &str) -> bool {
+    answer.starts_with("added ")
+        || answer.starts_with("set ")
+        || answer.starts_with("synced ")
+        || answer.starts_with("old\n")
+}
+
+/// The answers behind that to an entry, which was typed or not.
+fn passed<'a>(answers: &'a str, is_typed: &bool) -> &'a str {
+    if *is_typed {
+        behind(answers, "\n")
+    } else {
+        answers
+    }
+}
+
+/// Whether these are the answers to the entries that were typed, and to no more, each of which took a token or is old.
 fn are_taken(answers: &str, typed: &[bool]) -> bool {
     let mut rest = answers;
-    let mut are = true;
     for is_typed in typed {
-        if *is_typed {
-            are = are
-                && (rest.starts_with("added ")
-                    || rest.starts_with("set ")
-                    || rest.starts_with("synced ")
-                    || rest.starts_with("old\n"));
-            rest = behind(rest, "\n");
+        if *is_typed && !is_taken(rest) {
+            return false;
         }
+        rest = passed(rest, is_typed);
     }
-    are && rest.is_empty()
+    rest.is_empty()
 }
 
 /// The device after a year of these orders, of which each token is typed or not.
