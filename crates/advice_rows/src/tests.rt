@@ -2,6 +2,8 @@
 ghost use Rattle.std.specs.Prelude.{◌≡◌, ◌≤◌, ◌<◌, ◌^◌, length};
 ghost use Rattle.ledger_spec.specs.Tables.{RowIsInRange, OrderIsInRange};
 
+mod year;
+
 use ledger_keeper::{Keeper, MemKeeper};
 use ledger_spec::{Ask, Kind, Name, Order, Row};
 use memory_ports::{MemFlash, MemSink, MemSource};

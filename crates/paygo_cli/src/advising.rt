@@ -1,12 +1,10 @@
 // The way back for a device that fell behind, which is written.
-ghost use Rattle.std.specs.Prelude.{◌≡◌, ◌≢◌, ◌⊎◌, ◌+◌, ◌≤◌, ◌++◌, ◌∷◌, [], codes, length, Some};
-ghost use Rattle.std.specs.Fmt.{decimal};
+ghost use Rattle.std.specs.Prelude.{◌≡◌, ◌≢◌, ◌⊎◌, ◌≤◌, length, Some};
 ghost use Rattle.std.specs.List.{flat_map};
 ghost use Rattle.paygo_spec.specs.Flash.{FlashView};
 ghost use Rattle.paygo_spec.specs.Faults.{Counted};
 ghost use Rattle.paygo_spec.specs.Streams.{SourceView};
 ghost use Rattle.paygo_spec.specs.Text.{with_number};
-ghost use Rattle.ledger_spec.specs.AnswerText.{number, refused_text};
 ghost use Rattle.ledger_spec.specs.Keeper.{KeeperView};
 ghost use Rattle.ledger_spec.specs.Sorted.{orders_for};
 ghost use Rattle.ledger_spec.specs.Tables.{Tables, row_of};
@@ -20,7 +18,7 @@ use crate::writing::written;
 use line_output::write_line;
 use ledger_keeper::Keeper;
 use ledger_spec::{Answer, KeeperFault, Order, Row};
-use ledger_text::answer_line;
+use ledger_text::{answer_line, numbered};
 use line_text::Line;
 use paygo_ports::{Sink, WriteFault};
 use paygo_spec::Form;
@@ -37,45 +35,6 @@ fn counted(word: &[u8], n: u64) -> Line
     let mut line = Line::new();
     line.push(word);
     line.push_number(n);
-    line
-}
-
-// Puts a number in decimal digits at the end.
-fn push_digits(line: &mut Line, n: u64)
-    requires { length line.old ≤ 200 }
-    ensures text { line.new ≡ line.old ++ decimal n }
-    ensures size { length line.new ≤ length line.old + 20 }
-{
-    let mut buffer = itoa::Buffer::new();
-    let digits = buffer.format(n).as_bytes();
-    line.push(digits);
-}
-
-// The beginning of the refusal of a floor.
-fn refused_above() -> Line
-    ensures text { result ≡ (((codes "{\"no\":" ++ decimal 13) ++ codes ",\"why\":\"") ++ codes "above") ++ codes "\"" }
-    ensures size { length result ≤ 60 }
-{
-    let mut line = Line::new();
-    line.push(b"{\"no\":");
-    push_digits(&mut line, 13);
-    line.push(b",\"why\":\"");
-    line.push(b"above");
-    line.push(b"\"");
-    line
-}
-
-// The refusal of a floor that is above the newest count.
-fn above_text(last: u16) -> Line
-    ensures text { result ≡ refused_text 13 (codes "above") (number (codes "last") last ∷ []) }
-    ensures size { length result ≤ 511 }
-{
-    let mut line = refused_above();
-    line.push(b",\"");
-    line.push(b"last");
-    line.push(b"\":");
-    push_digits(&mut line, u64::from(last));
-    line.push(b"}");
     line
 }
 
@@ -120,7 +79,9 @@ fn advise_device<K: Sink>(
     match advise(alloc, orders, row.limit, floor) {
         Ok(Advice::List(list)) => written(write_list(sink, row.form, &list)),
         Ok(Advice::Gap { count }) => written(write_line(sink, counted(b"gap", u64::from(count)))),
-        Err(AdviceFault::Above { last }) => written(write_line(sink, above_text(last))),
+        Err(AdviceFault::Above { last }) => {
+            written(write_line(sink, numbered(13, b"above", b"last", u64::from(last))))
+        }
         Err(AdviceFault::Memory) => Status::Memory,
     }
 }

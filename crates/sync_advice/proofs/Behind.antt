@@ -1,9 +1,8 @@
 -- The device that is furthest behind is one that there can be.
-use Rattle.std.proofs.Common.{◌≡◌, ℕ, ◌+◌, ◌-◌, ◌*◌, ◌^◌, ◌<◌, ◌≤◌, Bool, true, false, [], refl, sym, ◌∙◌, ap, arith}
+use Rattle.std.proofs.Common.{◌≡◌, ℕ, ◌≤◌, true, false, [], refl, ◌∙◌, ap, arith}
 use Rattle.std.specs.Prelude.{nat_lt}
-use Rattle.std.specs.Int.{bit_at}
 use Rattle.std.proofs.lemmas.Bool.Decides.{nat_tests}
-use Rattle.paygo_spec.specs.History.{Summary, IsLimit, is_odd}
+use Rattle.paygo_spec.specs.History.{IsLimit}
 use Rattle.paygo_spec.specs.Clock.{IsClock, clock_at_start}
 use Rattle.paygo_spec.specs.Lawful.{IsSummary}
 use Rattle.paygo_spec.specs.Snapshot.{bits_of}

@@ -1,10 +1,8 @@
 -- What the tokens of a climb make of a device, and what any tokens of the row make of it.
-use Rattle.std.proofs.Common.{◌≡◌, ◌≢◌, ℕ, suc, ◌+◌, ◌^◌, ◌<◌, ◌≤◌, ◌==◌, min, max, Bool, true, false, Option, Some, None, List, [], ◌∷◌, length, refl, sym, ap, ◌∙◌, subst, inl, inr, ⊎_elim, arith}
-use Rattle.std.specs.Prelude.{IsSome, ◌⊎◌, if◌then◌else◌}
+use Rattle.std.proofs.Common.{◌≡◌, ℕ, suc, ◌<◌, ◌≤◌, true, false, Option, Some, None, List, [], ◌∷◌, length, refl, sym, ap, ◌∙◌, subst, inl, inr, ⊎_elim, arith}
 use Rattle.std.proofs.lemmas.Bool.{cases_Bool, cases_lt}
-use Rattle.std.proofs.lemmas.Bool.Decides.{nat_tests}
 use Rattle.paygo_spec.specs.declared.Entry.{Entry}
-use Rattle.paygo_spec.specs.declared.Entry.TheVariants.{Accept, Bad}
+use Rattle.paygo_spec.specs.declared.Entry.TheVariants.{Accept}
 use Rattle.paygo_spec.specs.declared.Form.{Form}
 use Rattle.paygo_spec.specs.declared.Found.{Found}
 use Rattle.paygo_spec.specs.declared.Found.TheVariants.{Valid, Old, Invalid}
@@ -12,18 +10,17 @@ use Rattle.paygo_spec.specs.declared.TokenKind.{TokenKind}
 use Rattle.paygo_spec.specs.declared.TokenKind.TheVariants.{Add, Set, Free, Sync}
 use Rattle.paygo_spec.specs.Chain.{token_at}
 use Rattle.paygo_spec.specs.Clock.{ClockView, clock_of, taken_by}
-use Rattle.paygo_spec.specs.Digits.{digits_of}
 use Rattle.paygo_spec.specs.Found.{takes, found}
-use Rattle.paygo_spec.specs.History.{Summary, IsLimit, limit_of, top, reach, spent, is_odd, kind_of, is_valid, Valid as IsValid}
-use Rattle.paygo_spec.specs.Typed.{Typed, by_found, typed}
+use Rattle.paygo_spec.specs.History.{Summary, IsLimit, limit_of, top, reach, is_odd, kind_of}
+use Rattle.paygo_spec.specs.Typed.{by_found}
 use Rattle.paygo_spec.proofs.CleanTokens.{clean_found}
 use Rattle.paygo_spec.proofs.Counts.{unspent_above}
 use Rattle.paygo_spec.proofs.Entries.{valid_is}
 use Rattle.paygo_spec.proofs.Windows.{limit_kept}
 use Rattle.ledger_spec.specs.declared.Order.{Order}
-use Rattle.sync_advice.specs.Advice.{step_of, order_with, last_count, reaches, follows, IsFar, IsEnd, Climbs, Stops}
-use Rattle.sync_advice.specs.Typing.{taken, taken_order, typed_all, IsSold, AreSold, IsFitting, behind, BringsUp, AreAmong, BringsBehind, IsShortest, BringsItself, NoneBrings}
-use Rattle.sync_advice.proofs.Climbing.{with_count, with_below, reach_parts, reach_of, climbs_up}
+use Rattle.sync_advice.specs.Advice.{order_with, last_count, reaches, follows, IsEnd, Climbs, Stops}
+use Rattle.sync_advice.specs.Typing.{taken, taken_order, typed_all, IsSold, AreSold, behind, BringsUp, AreAmong, IsShortest, BringsItself, NoneBrings}
+use Rattle.sync_advice.proofs.Climbing.{with_below, reach_parts, reach_of, climbs_up}
 use Rattle.sync_advice.proofs.Finding.{typed_found, clean_old, clean_invalid}
 
 -- an accepted token leaves the block

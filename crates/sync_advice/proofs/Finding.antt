@@ -1,17 +1,17 @@
 -- What a device makes of the token of an order that the shop issued.
-use Rattle.std.proofs.Common.{◌≡◌, ◌≢◌, ℕ, ◌+◌, ◌^◌, ◌<◌, ◌≤◌, ◌==◌, max, Bool, true, false, cond, Option, Some, None, List, ◌∷◌, length, refl, sym, ap, ◌∙◌, subst, ⊎_elim, arith}
-use Rattle.std.specs.Prelude.{nat_lt, unwrap_or, ◌&&◌, ◌⊎◌}
-use Rattle.std.proofs.lemmas.Bool.{cases_Bool, cases_lt}
+use Rattle.std.proofs.Common.{◌≡◌, ◌≢◌, ℕ, ◌+◌, ◌^◌, ◌<◌, ◌≤◌, ◌==◌, max, Bool, true, false, cond, Option, None, List, length, refl, sym, ap, ◌∙◌, subst, ⊎_elim, arith}
+use Rattle.std.specs.Prelude.{nat_lt, unwrap_or}
+use Rattle.std.proofs.lemmas.Bool.{cases_Bool}
 use Rattle.std.proofs.lemmas.Bool.Decides.{nat_tests}
 use Rattle.paygo_spec.specs.declared.Entry.{Entry}
 use Rattle.paygo_spec.specs.declared.Form.{Form}
 use Rattle.paygo_spec.specs.declared.Form.TheVariants.{Nine, Fifteen}
 use Rattle.paygo_spec.specs.declared.Found.{Found}
-use Rattle.paygo_spec.specs.declared.Found.TheVariants.{Valid, Old, Invalid}
-use Rattle.paygo_spec.specs.Chain.{value_in, token_at}
+use Rattle.paygo_spec.specs.declared.Found.TheVariants.{Old, Invalid}
+use Rattle.paygo_spec.specs.Chain.{token_at}
 use Rattle.paygo_spec.specs.Clock.{ClockView, clock_of}
 use Rattle.paygo_spec.specs.Digits.{digit_count, digits_of, first_fault, token_limit}
-use Rattle.paygo_spec.specs.Found.{is_match, both, found_at, least_at, is_raised, answer, takes, found}
+use Rattle.paygo_spec.specs.Found.{is_match, both, is_raised, answer, takes, found}
 use Rattle.paygo_spec.specs.History.{Summary, IsLimit, first_limit, raised_limit, limit_of, reach}
 use Rattle.paygo_spec.specs.Least.{least, IsLeast}
 use Rattle.paygo_spec.specs.Searched.{IsClean}

@@ -1,10 +1,10 @@
 -- The orders of a row of sound tables are as a shop issues them.
-use Rattle.std.proofs.Common.{◌≡◌, ℕ, ◌+◌, ◌%◌, ◌<◌, ◌≤◌, ◌==◌, cond, Bool, true, false, Option, Some, None, ◌⊎◌, ◌/◌, inl, inr, List, [], ◌∷◌, filter, refl, sym, ap, ◌∙◌, subst, ⊎_elim, arith}
+use Rattle.std.proofs.Common.{◌≡◌, ℕ, ◌+◌, ◌%◌, ◌≤◌, ◌==◌, cond, Bool, true, false, Some, None, ◌⊎◌, ◌/◌, inl, inr, List, [], ◌∷◌, filter, refl, sym, ap, ◌∙◌, subst, ⊎_elim, arith}
 use Rattle.std.specs.Prelude.{IsSome, nat_lt, nat_le}
 use Rattle.std.specs.List.{AllByRecursion}
 use Rattle.std.proofs.lemmas.Bool.{cases_Bool}
 use Rattle.std.proofs.lemmas.Bool.Decides.{nat_tests}
-use Rattle.paygo_spec.specs.History.{is_odd, kind_of}
+use Rattle.paygo_spec.specs.History.{IsLimit, is_odd, kind_of}
 use Rattle.ledger_spec.specs.declared.Ask.{Ask}
 use Rattle.ledger_spec.specs.declared.Ask.TheVariants as asks
 use Rattle.ledger_spec.specs.declared.Kind.{Kind}
@@ -13,15 +13,16 @@ use Rattle.ledger_spec.specs.declared.Order.{Order}
 use Rattle.ledger_spec.specs.declared.Row.{Row}
 use Rattle.ledger_spec.specs.Issuing.{parity_of}
 use Rattle.ledger_spec.specs.Names.{same_name}
-use Rattle.ledger_spec.specs.Replay.{Account, Booked, booked, paid_in, account_after, price_by, AreBooked, orders_back}
+use Rattle.ledger_spec.specs.Replay.{Account, booked, paid_in, account_after, price_by, AreBooked, orders_back}
 use Rattle.ledger_spec.specs.Sorted.{is_for, order_before, orders_for}
 use Rattle.ledger_spec.specs.Sound.{Sound, IsIssued}
-use Rattle.ledger_spec.specs.Tables.{Tables, row_of, order_of, order_in, prices_for, AskIsInRange, OrderIsInRange, RowIsInRange, AreOrders, Kept}
+use Rattle.ledger_spec.specs.Tables.{Tables, row_of, order_in, prices_for, AskIsInRange, OrderIsInRange, RowIsInRange, AreOrders, is_limit}
 use Rattle.ledger_spec.proofs.KeptLemmas.{row_kept}
 use Rattle.ledger_spec.proofs.NameLemmas.{same_is, self_same, same_or_not}
 use Rattle.ledger_spec.proofs.SortedLemmas.{all_sorted, orders_in_range}
-use Rattle.sync_advice.specs.Advice.{order_with}
+use Rattle.sync_advice.specs.Advice.{order_with, last_count}
 use Rattle.sync_advice.specs.Typing.{IsSold, AreSold}
+use Rattle.sync_advice.proofs.Climbing.{with_count, last_listed}
 
 -- what holds of each holds of the one that is found
 found_all : (P : Order → Type 0) (orders : List Order) (count : ℕ) (order : Order) → AllByRecursion P orders → order_with orders count ≡ Some order → P order
@@ -152,3 +153,24 @@ row_is_sold next tables serial row sound is count order found =
     }) (orders_back tables serial) own in
     let sold = each_sold next row range (price_by (prices_for tables serial) row) row.total (orders_back tables serial) of_row (sound.replayed serial row is).booked in
     found_all P (orders_for tables serial) count order (all_sorted order_before P (orders_back tables serial) sold) found
+
+-- the limit of a row is one of the two
+limit_is : (limit : ℕ) → is_limit limit ≡ true → IsLimit limit
+limit_is limit is = ⊎_elim
+    (λ (t : (limit == 4095) ≡ true). inl (grind (arith, nat_tests)))
+    (λ (f : (limit == 4095) ≡ false). let t : (limit == 16383) ≡ true = rw f at is in inr (grind (arith, nat_tests)))
+    (cases_Bool (limit == 4095))
+
+pub row_is_limited : (next : List ℕ → ℕ → ℕ) (tables : Tables) (serial : List ℕ) (row : Row) → Sound next tables → row_of tables serial ≡ Some row → IsLimit row.limit
+row_is_limited next tables serial row sound is = limit_is row.limit (row_kept tables.rows serial row sound.kept.rows is).limit
+
+-- and no order is above it
+pub row_is_within : (next : List ℕ → ℕ → ℕ) (tables : Tables) (serial : List ℕ) (row : Row) → Sound next tables → row_of tables serial ≡ Some row → last_count (orders_for tables serial) ≤ row.limit
+row_is_within next tables serial row sound is =
+    let orders = orders_for tables serial in
+    let P = λ (k : ℕ). k ≤ row.limit in
+    ⊎_elim
+    (λ (z : last_count orders ≡ 0). subst P (sym z) (omega arith))
+    (λ (p : (order : Order) × (order_with orders (last_count orders) ≡ Some order)).
+    subst P (with_count orders (last_count orders) p.0 p.1) (row_is_sold next tables serial row sound is (last_count orders) p.0 p.1).limited)
+    (last_listed orders)

@@ -16,6 +16,13 @@ AnswersAs orders limit floor (Ok (advice.Gap count)) = (floor ≤ last_count ord
 AnswersAs orders limit floor (Err (fault.Above last)) = (last_count orders < floor) × (last ≡ last_count orders)
 AnswersAs orders limit floor (Err fault.Memory) = Unit {0}
 
+-- Two answers say the same: the same orders in the same order, the same gap, or the same greatest count.
+abbrev pub SayTheSame : Result Advice AdviceFault → Result Advice AdviceFault → Type 0
+SayTheSame (Ok (advice.List one)) (Ok (advice.List other)) = one.items ≡ other.items
+SayTheSame (Ok (advice.Gap one)) (Ok (advice.Gap other)) = one ≡ other
+SayTheSame (Err (fault.Above one)) (Err (fault.Above other)) = one ≡ other
+SayTheSame one other = ⊥
+
 -- What is said of the list that is advised.
 abbrev pub IfList : Advice → (List Order → Type 0) → Type 0
 IfList (advice.List list) P = P list.items

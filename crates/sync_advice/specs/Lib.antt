@@ -1,3 +1,4 @@
 pub mod Advice
+pub mod Places
 pub mod Typing
 pub mod Answers

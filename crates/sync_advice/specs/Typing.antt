@@ -1,5 +1,5 @@
 -- What becomes of a device into which tokens are typed one after the other.
-use Rattle.std.specs.Prelude.{◌≡◌, ℕ, ◌+◌, ◌^◌, ◌<◌, ◌≤◌, Bool, false, nat_lt, IsSome, List, [], ◌∷◌, length, Option, Some, None}
+use Rattle.std.specs.Prelude.{◌≡◌, ℕ, ◌^◌, ◌<◌, ◌≤◌, false, nat_lt, IsSome, List, [], ◌∷◌, length, Option, Some, None}
 use Rattle.paygo_spec.specs.declared.Entry.{Entry}
 use Rattle.paygo_spec.specs.declared.Entry.TheVariants.{Accept}
 use Rattle.paygo_spec.specs.declared.Form.{Form}
@@ -11,7 +11,7 @@ use Rattle.paygo_spec.specs.Searched.{Searched, IsClean}
 use Rattle.paygo_spec.specs.Snapshot.{bits_of}
 use Rattle.paygo_spec.specs.Typed.{Typed, Makes, OldToken, typed}
 use Rattle.ledger_spec.specs.declared.Order.{Order}
-use Rattle.sync_advice.specs.Advice.{order_with, last_count, Climbs, Stops}
+use Rattle.sync_advice.specs.Advice.{order_with, last_count}
 
 -- What was made of an entry, as the history after it: a token was accepted, or is old. None where it was anything else: a
 -- bad entry, one of the wrong length, with a wrong digit, or while entries are blocked.

@@ -44,13 +44,17 @@ const ROW: [(u16, u16); 4] = [(2, 7), (60, 7), (64, 7), (129, 999)];
 #[test]
 fn the_shortest_way(rt: HostRuntime) {
     let alloc = rt.alloc();
-    let cases: [(&[(u16, u16)], u16, &str); 6] = [
+    let cases: [(&[(u16, u16)], u16, &str); 9] = [
         (&ROW, 0, "64 129 "),
         (&ROW, 30, "129 "),
         (&ROW, 129, ""),
         (&ROW, 200, "above 129"),
         (&[(2, 7), (200, 7)], 0, "gap 2"),
         (&[], 0, ""),
+        // in another order, and two orders of one count, of which the first alone counts
+        (&[(129, 999), (64, 7), (2, 7), (60, 7)], 0, "64 129 "),
+        (&[(65, 7), (65, 999)], 0, "gap 0"),
+        (&[(65, 999), (65, 7)], 0, "65 "),
     ];
     for (sold, floor, answer) in cases {
         match told(alloc, sold, floor) {

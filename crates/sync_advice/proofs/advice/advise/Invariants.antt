@@ -1,5 +1,5 @@
-use Rattle.std.proofs.Common.{◌≡◌, ◌≤◌, ◌-◌}
-use Rattle.sync_advice.specs.Advice.{Climbs, last_count}
+use Rattle.std.proofs.Common.{◌≤◌, ◌-◌}
+use Rattle.sync_advice.specs.Advice.{Climbs}
 use Rattle.sync_advice.proofs.advice.advise.Given as goal
 
 abbrev pub invariant-loop-at : goal.invariant-loop-at
