@@ -1,0 +1,4 @@
+pub mod Sums
+pub mod Orders
+pub mod Keeping
+pub mod Putting
