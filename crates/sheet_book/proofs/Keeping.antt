@@ -1,10 +1,14 @@
 -- What is kept of a place is decided by the set of its reports.
-use Rattle.std.proofs.Common.{◌≡◌, ◌≢◌, ℕ, Bool, true, false, not, List, [], ◌∷◌, Option, Some, None, refl, sym, ap, ◌∙◌, subst, inl, inr, ⊎_elim}
-use Rattle.std.specs.Prelude.{◌&&◌, ◌||◌, ◌⊎◌, is_some, if◌then◌else◌}
-use Rattle.std.proofs.lemmas.Bool.{cases_Bool, or_parts, not-true, not-false}
-use Rattle.sheet_book.specs.Reports.{Key, Sale, Report, Kept, Totals, same_key, same_sale, sale_before, lesser, kept_with, kept_of, has_key, keys_of, sum_over, money_in, dispute_in, totals_of, IsAmong, SameReports}
-use Rattle.sheet_book.specs.Lines.{is_distinct}
-use Rattle.sheet_book.proofs.Sums.{key_is, key_self, sum_same, sum_pointwise}
+use Rattle.std.proofs.Common.{◌≡◌, true, false, not, List, [], ◌∷◌, Option, Some, None, refl, sym, ap, ◌∙◌, subst, inl, inr, ⊎_elim}
+use Rattle.std.specs.Prelude.{◌||◌, is_some}
+use Rattle.std.proofs.lemmas.Bool.{cases_Bool, or_parts, not-false}
+use Rattle.sheet_book.specs.declared.places.Key.{Key}
+use Rattle.sheet_book.specs.declared.sales.Sale.{Sale}
+use Rattle.sheet_book.specs.declared.sales.Kept.{Kept}
+use Rattle.sheet_book.specs.Reports.{Report, same_key, same_sale, sale_before, sales_of, kept_of, has_key, is_distinct, keys_of, IsAmong, SameReports}
+use Rattle.sheet_book.specs.Books.{kept_with}
+use Rattle.sheet_book.proofs.Sums.{key_is}
+use Rattle.sheet_book.proofs.Least.{kept_more}
 use Rattle.sheet_book.proofs.Orders.{sale_is, sale_self, before_self, before_on, before_total}
 
 -- a report of this place is among these
@@ -128,11 +132,15 @@ other_step : (key : Key) (first : Report) (reports : List Report) (found : Optio
 other_step key first reports None f k = other_none key first reports f k
 other_step key first reports (Some kept) f k = other_kept key first reports kept f k
 
+-- what one report more of the place makes of what is kept
+pub kept_here : (key : Key) (first : Report) (reports : List Report) → same_key key first.key ≡ true → kept_of key (first ∷ reports) ≡ Some (kept_with first.sale (kept_of key reports))
+kept_here key first reports t = rw t (kept_more first.sale (sales_of key reports))
+
 pub kept_is : (key : Key) (reports : List Report) → IsKeptOr key reports (kept_of key reports)
 kept_is key [] = λ r a. absurd a
 kept_is key (first ∷ reports) =
     ⊎_elim
-    (λ (t : same_key key first.key ≡ true). rw t (kept_step key first reports (kept_of key reports) t (kept_is key reports)))
+    (λ (t : same_key key first.key ≡ true). subst (IsKeptOr key (first ∷ reports)) (sym (kept_here key first reports t)) (kept_step key first reports (kept_of key reports) t (kept_is key reports)))
     (λ (f : same_key key first.key ≡ false). rw f (other_step key first reports (kept_of key reports) f (kept_is key reports)))
     (cases_Bool (same_key key first.key))
 
@@ -200,13 +208,3 @@ keys_distinct (first ∷ reports) =
     (λ (h : has_key (keys_of reports) first.key ≡ true). rw h rest)
     (λ (h : has_key (keys_of reports) first.key ≡ false). rw (h, h, rest) refl)
     (cases_Bool (has_key (keys_of reports) first.key))
-
-pub totals_same : (xs ys : List Report) → SameReports xs ys → totals_of xs ≡ totals_of ys
-totals_same xs ys same =
-    let keys : (key : Key) → has_key (keys_of xs) key ≡ has_key (keys_of ys) key = λ key. has_kept key xs ∙ ap is_some (kept_same key xs ys same) ∙ sym (has_kept key ys) in
-    let tokens = sum_same (λ key. 1) (keys_of xs) (keys_of ys) (keys_distinct xs) (keys_distinct ys) keys in
-    let money = sum_pointwise (λ key. money_in (kept_of key xs)) (λ key. money_in (kept_of key ys)) (keys_of xs) (λ key. ap money_in (kept_same key xs ys same)) ∙ sum_same (λ key. money_in (kept_of key ys)) (keys_of xs) (keys_of ys) (keys_distinct xs) (keys_distinct ys) keys in
-    let disputes = sum_pointwise (λ key. dispute_in (kept_of key xs)) (λ key. dispute_in (kept_of key ys)) (keys_of xs) (λ key. ap dispute_in (kept_same key xs ys same)) ∙ sum_same (λ key. dispute_in (kept_of key ys)) (keys_of xs) (keys_of ys) (keys_distinct xs) (keys_distinct ys) keys in
-    ap (λ (n : ℕ). record { tokens = n; money = (totals_of xs).money; disputes = (totals_of xs).disputes }) tokens
-    ∙ ap (λ (n : ℕ). record { tokens = (totals_of ys).tokens; money = n; disputes = (totals_of xs).disputes }) money
-    ∙ ap (λ (n : ℕ). record { tokens = (totals_of ys).tokens; money = (totals_of ys).money; disputes = n }) disputes

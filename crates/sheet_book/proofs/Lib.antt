@@ -1,4 +1,6 @@
 pub mod Sums
 pub mod Orders
+pub mod Least
 pub mod Keeping
-pub mod Putting
+pub mod Counting
+pub mod Entries

@@ -1,12 +1,12 @@
 -- Places that each stand once: sums over them don't depend on their order.
-use Rattle.std.proofs.Common.{◌≡◌, ◌≢◌, ℕ, ◌+◌, Bool, true, false, not, ◌==◌, List, [], ◌∷◌, refl, sym, ap, ◌∙◌, subst, inl, inr, ⊎_elim, arith}
-use Rattle.std.specs.Prelude.{◌&&◌, ◌||◌, ◌⊎◌, if◌then◌else◌}
+use Rattle.std.proofs.Common.{◌≡◌, ℕ, ◌+◌, true, false, not, ◌==◌, List, [], ◌∷◌, refl, sym, ap, ◌∙◌, subst, ⊎_elim, arith}
+use Rattle.std.specs.Prelude.{◌&&◌, ◌||◌, length, if◌then◌else◌}
 use Rattle.std.proofs.lemmas.Bool.{cases_Bool, and_parts, not-true}
 use Rattle.std.proofs.lemmas.Bool.Decides.{nat_tests}
 use Rattle.ledger_spec.specs.Names.{same_name}
 use Rattle.ledger_spec.proofs.NameLemmas.{same_is, self_same}
-use Rattle.sheet_book.specs.Reports.{Key, same_key, has_key, sum_over}
-use Rattle.sheet_book.specs.Lines.{is_distinct}
+use Rattle.sheet_book.specs.declared.places.Key.{Key}
+use Rattle.sheet_book.specs.Reports.{same_key, has_key, is_distinct, sum_over}
 
 pub key_is : (a b : Key) → same_key a b ≡ true → a ≡ b
 key_is a b h =
@@ -108,3 +108,8 @@ sum_same f (first ∷ ks) ls d e same =
 pub sum_pointwise : (f g : Key → ℕ) (keys : List Key) → ((key : Key) → f key ≡ g key) → sum_over f keys ≡ sum_over g keys
 sum_pointwise f g [] same = refl
 sum_pointwise f g (key ∷ keys) same = let a = same key in let b = sum_pointwise f g keys same in omega arith
+
+-- how many places are the sum of 1 over them
+pub count_over : (keys : List Key) → length keys ≡ sum_over (λ key. 1) keys
+count_over [] = refl
+count_over (key ∷ keys) = let rest = count_over keys in omega (arith, rest)

@@ -1,2 +1,3 @@
 pub mod Reports
-pub mod Lines
+pub mod KeyOrder
+pub mod Books

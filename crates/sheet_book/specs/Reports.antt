@@ -1,58 +1,65 @@
--- What the reports of an agent come to, in whatever order they are told, and however often.
-use Rattle.std.specs.Prelude.{◌≡◌, ℕ, zero, suc, ◌+◌, Bool, true, false, not, ◌&&◌, ◌||◌, ◌==◌, nat_lt, List, [], ◌∷◌, length, Option, Some, None, is_some, ◌⊎◌, ◌↔◌, if◌then◌else◌}
+-- What the reports of agents come to: the same in whatever order they come, and however often each of them comes.
+use Rattle.std.specs.Prelude.{◌≡◌, ℕ, ◌+◌, Bool, true, false, not, ◌&&◌, ◌||◌, ◌==◌, nat_lt, List, [], ◌∷◌, length, Option, Some, None, ◌⊎◌, ◌↔◌, if◌then◌else◌}
+use Rattle.std.specs.List.{list_all, list_any}
+use Rattle.std.specs.Option.{option_map}
 use Rattle.ledger_spec.specs.Names.{same_name}
 use Rattle.ledger_spec.specs.Sorted.{name_before}
+use Rattle.sheet_book.specs.declared.places.Key.{Key}
+use Rattle.sheet_book.specs.declared.sales.Sale.{Sale}
+use Rattle.sheet_book.specs.declared.sales.Kept.{Kept}
+use Rattle.sheet_book.specs.declared.sales.Totals.{Totals}
 
--- A place of a sheet: the sheet's name, and a number from 1 to 8.
-pub record Key : Type 0 where
-  pub sheet : List ℕ
-  pub place : ℕ
-
--- A sale: its name, and the money that was taken for it.
-pub record Sale : Type 0 where
-  pub name : List ℕ
-  pub money : ℕ
-
--- A report: the token at this place was sold by this sale.
+-- What an agent reports: the token at this place of a sheet was sold by this sale.
 pub record Report : Type 0 where
   pub key : Key
   pub sale : Sale
 
--- Whether two places, or two sales, are one.
+-- Whether two places are one: the same number on the same sheet.
 abbrev pub same_key : Key → Key → Bool
 same_key a b = same_name a.sheet b.sheet && (a.place == b.place)
 
+-- Whether two sales are one: the same name, and the same money.
 abbrev pub same_sale : Sale → Sale → Bool
 same_sale a b = same_name a.name b.name && (a.money == b.money)
 
--- Whether a sale stands before another: by its name's bytes, and then by its money.
+-- Whether a sale stands before another: by the bytes of its name, and by its money where the names are one.
 abbrev pub sale_before : Sale → Sale → Bool
 sale_before a b = name_before a.name b.name || (same_name a.name b.name && nat_lt a.money b.money)
 
--- What is kept of the reports of a place: the least sale, and whether two of them differ.
-pub record Kept : Type 0 where
-  pub sale : Sale
-  pub disputed : Bool
+-- The sales that were reported of a place, the newest report first.
+abbrev pub sales_of : Key → List Report → List Sale
+sales_of key [] = []
+sales_of key (report ∷ reports) =
+    if same_key key report.key then report.sale ∷ sales_of key reports else sales_of key reports
 
--- The lesser of two sales.
-abbrev pub lesser : Sale → Sale → Sale
-lesser a b = if sale_before a b then a else b
+-- A sale, or another one that stands before it.
+abbrev pub lesser : Sale → Option Sale → Sale
+lesser sale None = sale
+lesser sale (Some other) = if sale_before sale other then sale else other
 
--- What is kept with one report more.
-abbrev pub kept_with : Sale → Option Kept → Kept
-kept_with sale None = record { sale = sale; disputed = false }
-kept_with sale (Some kept) = record { sale = lesser sale kept.sale; disputed = not (same_sale sale kept.sale) || kept.disputed }
+-- The least of some sales. It is the one that counts, whichever was reported last.
+abbrev pub least : List Sale → Option Sale
+least [] = None
+least (sale ∷ sales) = Some (lesser sale (least sales))
 
--- What is kept of a place, of these reports, the newest first.
+-- Whether two of the sales differ, so that somebody has to ask the agent.
+abbrev pub differ : List Sale → Bool
+differ [] = false
+differ (sale ∷ sales) = not (list_all (same_sale sale) sales) || differ sales
+
+-- What is kept of a place: the least sale that was reported, and whether two of them differ. Nothing where none was.
 abbrev pub kept_of : Key → List Report → Option Kept
-kept_of key [] = None
-kept_of key (report ∷ reports) =
-    if same_key key report.key then Some (kept_with report.sale (kept_of key reports)) else kept_of key reports
+kept_of key reports =
+    option_map (λ sale. record { sale = sale; disputed = differ (sales_of key reports) }) (least (sales_of key reports))
 
 -- Whether a place is among these.
 abbrev pub has_key : List Key → Key → Bool
-has_key [] key = false
-has_key (first ∷ keys) key = same_key key first || has_key keys key
+has_key keys key = list_any (same_key key) keys
+
+-- No place is among these twice.
+abbrev pub is_distinct : List Key → Bool
+is_distinct [] = true
+is_distinct (key ∷ keys) = not (has_key keys key) && is_distinct keys
 
 -- The places of which there is a report, each once.
 abbrev pub keys_of : List Report → List Key
@@ -65,27 +72,31 @@ abbrev pub sum_over : (Key → ℕ) → List Key → ℕ
 sum_over f [] = 0
 sum_over f (key ∷ keys) = f key + sum_over f keys
 
-abbrev pub money_in : Option Kept → ℕ
+-- The money that was taken for the token at a place: that of the least sale.
+abbrev pub money_in : Option Sale → ℕ
 money_in None = 0
-money_in (Some kept) = kept.sale.money
+money_in (Some sale) = sale.money
 
-abbrev pub dispute_in : Option Kept → ℕ
-dispute_in None = 0
-dispute_in (Some kept) = if kept.disputed then 1 else 0
+abbrev pub money_at : List Report → Key → ℕ
+money_at reports key = money_in (least (sales_of key reports))
 
--- How many tokens were sold, for how much money, and of how many of them two reports differ.
-pub record Totals : Type 0 where
-  pub tokens : ℕ
-  pub money : ℕ
-  pub disputes : ℕ
+-- 1 for a place of which two reports differ.
+abbrev pub dispute_at : List Report → Key → ℕ
+dispute_at reports key = if differ (sales_of key reports) then 1 else 0
 
-abbrev pub totals_of : List Report → Totals
-totals_of reports =
+-- What the reports of these places come to: how many places they are, the sum of the money that was taken for their
+-- tokens, and of how many of them two reports differ.
+abbrev pub totals_at : List Key → List Report → Totals
+totals_at keys reports =
     record {
-      tokens = sum_over (λ key. 1) (keys_of reports);
-      money = sum_over (λ key. money_in (kept_of key reports)) (keys_of reports);
-      disputes = sum_over (λ key. dispute_in (kept_of key reports)) (keys_of reports);
+      tokens = length keys;
+      money = sum_over (money_at reports) keys;
+      disputes = sum_over (dispute_at reports) keys;
     }
+
+-- What all reports come to.
+abbrev pub totals_of : List Report → Totals
+totals_of reports = totals_at (keys_of reports) reports
 
 -- A report is among these.
 abbrev pub IsAmong : Report → List Report → Type 0
@@ -95,3 +106,8 @@ IsAmong report (first ∷ reports) = (report ≡ first) ⊎ IsAmong report repor
 -- Two lists have the same reports, in whatever order, and however often.
 abbrev pub SameReports : List Report → List Report → Type 0
 SameReports xs ys = (report : Report) → (IsAmong report xs ↔ IsAmong report ys)
+
+-- These are the places of which there is a report, and no other, and each of them once.
+pub record AreReportedOnce (keys : List Key) (reports : List Report) : Type 0 where
+  pub once : is_distinct keys ≡ true
+  pub reported : (key : Key) → (has_key keys key ≡ true) ↔ ((sale : Sale) × IsAmong (record { key = key; sale = sale }) reports)

@@ -1,114 +1,54 @@
 // The book of the sales that agents reported.
-ghost use Rattle.std.specs.Prelude.{◌≡◌, ℕ, ◌≤◌, ◌*◌, ◌^◌, ◌==◌, ◌&&◌, true, IfOk, OnErr, List, [], ◌∷◌, Some, None, length};
-ghost use Rattle.std.specs.List.{position};
-ghost use Rattle.sheet_book.specs.Reports.{Report, Totals, kept_of, kept_with, same_key, sale_before, same_sale, totals_of};
-ghost use Rattle.sheet_book.specs.Lines.{StandsFor, IsAnswered, is_distinct, keys_in, key_of, kept_in, line_of, put_in, totals_in};
+ghost use Rattle.std.specs.Prelude.{◌≡◌, IfOk, OnErr, List, [], ◌∷◌, Some};
+ghost use Rattle.std.specs.BTreeMap.{get, IsUnchanged};
+ghost use Rattle.sheet_book.specs.Reports.{Report, least, sales_of, totals_of};
+ghost use Rattle.sheet_book.specs.KeyOrder.{key_cmp};
+ghost use Rattle.sheet_book.specs.Books.{StandsFor, kept_with};
 
+use crate::places::Key;
+use crate::sales::{Kept, Sale, Totals};
 use ledger_spec::Name;
 use paygo_spec::Memory;
 use std::alloc::Global;
+use std::collections::BTreeMap;
 
-/// What is kept of a place of a sheet.
-#[derive(Clone, Copy, Debug)]
-struct Line {
-    /// The sheet.
-    sheet: Name,
-    /// The place, from 1 to 8.
-    place: u8,
-    /// The least sale that was reported.
-    sale: Name,
-    /// The money that was taken for it.
-    money: u64,
-    /// Whether two reports differ.
-    disputed: bool,
-}
-
-/// The sales that were reported.
+/// The sales that were reported of the tokens on sheets. It has a line for each place with a report, however many reports
+/// there were, and a report costs a search among the lines in their order.
 #[derive(Drop)]
 pub struct Book {
-    lines: Vec<Line>,
-    ghost distinct: { is_distinct (keys_in lines.items) ≡ true },
-}
-
-impl Line {
-    fn is_at(&self, sheet: &Name, place: u8) -> bool
-        ensures { result ≡ same_key (record { sheet = sheet.now; place = place }) (key_of self.now) }
-    {
-        sheet.same(&self.sheet) && place == self.place
-    }
-
-    /// The line of a place with one report.
-    fn first(sheet: &Name, place: u8, sale: &Name, money: u64) -> Line
-        ensures { result ≡ line_of (record { sheet = sheet.now; place = place })
-            (kept_with (record { name = sale.now; money = money }) None) }
-    {
-        Line {
-            sheet: *sheet,
-            place,
-            sale: *sale,
-            money,
-            disputed: false,
-        }
-    }
-
-    /// The sale that is kept.
-    fn kept(&self) -> (Name, u64)
-        ensures name { result.0 ≡ self.now.sale }
-        ensures money { result.1 ≡ self.now.money }
-    {
-        (self.sale, self.money)
-    }
-
-    /// The line with one report more.
-    fn with(&self, sale: &Name, money: u64) -> Line
-        ensures { result ≡ line_of (key_of self.now)
-            (kept_with (record { name = sale.now; money = money }) (Some (kept_in self.now))) }
-    {
-        let same = sale.same(&self.sale);
-        let disputed = self.disputed || !(same && money == self.money);
-        if sale.before(&self.sale) || (same && money < self.money) {
-            Line {
-                sheet: self.sheet,
-                place: self.place,
-                sale: *sale,
-                money,
-                disputed,
-            }
-        } else {
-            Line {
-                sheet: self.sheet,
-                place: self.place,
-                sale: self.sale,
-                money: self.money,
-                disputed,
-            }
-        }
-    }
-}
-
-/// The index of the line of a place.
-fn find(lines: &[Line], sheet: &Name, place: u8) -> Option<usize>
-    ensures { result ≡ position (λ line. same_key (record { sheet = sheet.now; place = place }) (key_of line)) lines.now }
-{
-    lines.iter().position(|line| line.is_at(sheet, place))
+    places: BTreeMap<Key, Kept>,
 }
 
 impl Book {
-    /// A book with no report.
+    /// A book with no report. `Memory` where there was none for it.
     pub fn new(alloc: Global) -> Result<Book, Memory>
-        ensures { IfOk result (λ book. StandsFor book.lines.items []) }
+        ensures { IfOk result (λ book. StandsFor book []) }
     {
         Ok(Book {
-            lines: Vec::new(alloc),
+            places: BTreeMap::new(alloc),
         })
     }
 
-    /// A sale of the token at a place of a sheet is reported. The answer is the sale that is kept: the least of those that
-    /// were reported for the place, by the bytes of its name and then by its money.
+    /// What is kept of a place after one more report.
+    fn kept_with(&self, key: &Key, sale: &Sale) -> Kept
+        ensures { result ≡ kept_with sale.now (get key_cmp self.now.places key.now) }
+    {
+        match self.places.get(key) {
+            Some(kept) => kept.with(sale),
+            None => Kept {
+                sale: *sale,
+                disputed: false,
+            },
+        }
+    }
+
+    /// An agent reports a sale of the token at a place of a sheet, for this much money. Any name, place and money may be
+    /// reported, in any order, and as often as he likes. The answer is the sale that counts, and its money: the least of those
+    /// that were reported of the place, this one among them, by the bytes of its name and then by its money.
     ///
     /// # Errors
     ///
-    /// `Memory`: there was none for the report, and the book is as before.
+    /// `Memory`: there was none for the first report of a place, and the book is as before.
     pub fn report(
         &mut self,
         sheet: &Name,
@@ -116,45 +56,43 @@ impl Book {
         sale: &Name,
         money: u64,
     ) -> Result<(Name, u64), Memory>
-        ensures stands { IfOk result (λ kept. (reports : List Report) → StandsFor self.old.lines.items reports →
-            StandsFor self.new.lines.items (record {
+        ensures stands { IfOk result (λ kept. (reports : List Report) → StandsFor self.old reports →
+            StandsFor self.new (record {
               key = record { sheet = sheet.now; place = place };
               sale = record { name = sale.now; money = money };
             } ∷ reports)) }
-        ensures kept { IfOk result (λ kept. IsAnswered (record { sheet = sheet.now; place = place }) self.new.lines.items kept.0 kept.1) }
-        ensures memory { OnErr result (self.new.lines.items ≡ self.old.lines.items) }
+        ensures kept { IfOk result (λ kept. (reports : List Report) → StandsFor self.new reports →
+            least (sales_of (record { sheet = sheet.now; place = place }) reports)
+            ≡ Some (record { name = kept.0; money = kept.1 })) }
+        ensures memory { OnErr result (IsUnchanged self.old.places self.new.places) }
     {
-        match find(&self.lines, sheet, place) {
-            Some(i) => {
-                let line = self.lines[i].with(sale, money);
-                let kept = line.kept();
-                self.lines[i] = line;
-                Ok(kept)
-            }
-            None => {
-                let line = Line::first(sheet, place, sale, money);
-                let kept = line.kept();
-                match self.lines.push(line) {
-                    Ok(()) => Ok(kept),
-                    Err(_) => Err(Memory),
-                }
-            }
+        let key = Key {
+            sheet: *sheet,
+            place,
+        };
+        let sale = Sale { name: *sale, money };
+        let kept = self.kept_with(&key, &sale);
+        let answer = kept.sale();
+        match self.places.insert(key, kept) {
+            Ok(_) => Ok(answer),
+            Err(_) => Err(Memory),
         }
     }
 
-    /// How many tokens were sold, for how much money, and of how many of them two reports differ.
-    pub fn totals(&self) -> (u64, u128, u64)
-        ensures { (reports : List Report) → StandsFor self.now.lines.items reports →
-            totals_of reports ≡ record { tokens = result.0; money = result.1; disputes = result.2 } }
+    /// What all reports come to.
+    pub fn totals(&self) -> Totals
+        ensures { (reports : List Report) → StandsFor self.now reports → result ≡ totals_of reports }
     {
-        let mut money = 0u128;
-        let mut disputes = 0u64;
-        for line in &self.lines {
-            money += u128::from(line.money);
-            if line.disputed {
-                disputes += 1;
-            }
+        let mut money = 0;
+        let mut disputes = 0;
+        for kept in self.places.values() {
+            money += u128::from(kept.money());
+            disputes += u64::from(kept.disputed);
         }
-        (self.lines.len() as u64, money, disputes)
+        Totals {
+            tokens: self.places.len() as u64,
+            money,
+            disputes,
+        }
     }
 }

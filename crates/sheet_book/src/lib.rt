@@ -1,17 +1,27 @@
-// What the agents of a shop sold of their sheets of tokens: the sums never depend on the order of the reports or on repeats.
+// What agents report of the tokens that they sold from sheets: neither the order of the reports nor a repeat matters.
 #![tactic(auto)]
 
 ghost use Rattle.std.specs.Prelude.{◌≡◌, List};
-ghost use Rattle.sheet_book.specs.Reports.{Report, SameReports, totals_of};
+ghost use Rattle.sheet_book.specs.declared.places.Key.{Key};
+ghost use Rattle.sheet_book.specs.Reports.{Report, SameReports, AreReportedOnce, keys_of, totals_at, totals_of};
 
 mod book;
+mod places;
+mod sales;
 
 pub use book::Book;
+pub use places::Key;
+pub use sales::{Kept, Sale, Totals};
 
 /// The totals are those of the set of the reports: their order doesn't matter, and a repeat changes nothing.
 pub fn order_and_repeats_do_not_matter()
     ensures { (xs ys : List Report) → SameReports xs ys → totals_of xs ≡ totals_of ys }
 {}
 
-#[cfg(test)]
-mod tests;
+/// No token is counted twice, and none is forgotten: the totals go over the places of which there is a report, each once.
+/// They are the same over every list of those places that has each of them once.
+pub fn no_token_is_counted_twice()
+    ensures each { (reports : List Report) → AreReportedOnce (keys_of reports) reports }
+    ensures any { (keys : List Key) (reports : List Report) → AreReportedOnce keys reports →
+        totals_of reports ≡ totals_at keys reports }
+{}

@@ -1,4 +1,4 @@
-use Rattle.sheet_book.proofs.Keeping.{totals_same}
+use Rattle.sheet_book.proofs.Counting.{totals_same}
 use Rattle.sheet_book.proofs.order_and_repeats_do_not_matter.Goals as goal
 
 pub returns : goal.returns

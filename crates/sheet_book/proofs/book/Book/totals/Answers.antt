@@ -1,14 +1,23 @@
-use Rattle.std.proofs.Common.{◌≡◌, ℕ, ◌+◌, ◌≤◌, List, length, drop, sym, subst, ap, ◌∙◌, arith, [], refl}
-use Rattle.std.proofs.lemmas.List.{drop_all}
-use Rattle.sheet_book.specs.declared.book.Line.{Line}
-use Rattle.sheet_book.specs.Reports.{Totals}
-use Rattle.sheet_book.specs.Lines.{sum_lines, line_dispute}
-use Rattle.sheet_book.proofs.Putting.{totals_found, ended, whole}
+use Rattle.std.proofs.Common.{◌∙◌, arith}
+use Rattle.sheet_book.proofs.Entries.{money_of, dispute_of, one_more, all_summed, totals_found, flag_is, money_fits, disputes_fit, sum_fits}
 use Rattle.sheet_book.proofs.book.Book.totals.Goals as goal
+
+pub overflow_add-money : goal.overflow_add-money
+overflow_add-money c =
+    omega (arith, sum_fits c.loop-kept.money c.from-money.result _ _ (rw c.from-money.ensures c.money.type_inv) c.values-kept-items.ensures.fits c.loop-kept.invariant.money_fits)
+
+pub loop-kept-preserved : goal.loop-kept-preserved
+loop-kept-preserved c =
+    let disputed = c.from-disputes.ensures ∙ flag_is _ in
+    record {
+      money_is = one_more money_of _ _ _ _ _ _ c.in-Some.ensures.steps (c.from-money.ensures ∙ c.money.ensures) c.loop-kept.invariant.money_is;
+      money_fits = money_fits _ _ _ _ _ _ c.in-Some.ensures.steps (rw c.from-money.ensures c.money.type_inv) c.loop-kept.invariant.money_fits;
+      disputes_is = one_more dispute_of _ _ _ _ _ _ c.in-Some.ensures.steps disputed c.loop-kept.invariant.disputes_is;
+      disputes_fits = disputes_fit _ _ _ _ _ _ c.in-Some.ensures.steps disputed c.loop-kept.invariant.disputes_fits;
+    }
 
 pub returns : goal.returns
 returns c = λ reports stands.
-    totals_found _ reports c.args.self.now.distinct stands
-    ∙ whole _ _ _ _ (ap length (sym c.deref-line-items.ensures.value) ∙ c.deref-line-items.ensures.len ∙ sym c.len.ensures)
-    (ended (λ line. line.money) _ _ c.loop-line.money c.loop-line.line-index c.deref-line-items.ensures.value c.loop-line-test.false c.loop-line.invariant.money_is)
-    (ended line_dispute _ _ c.loop-line.disputes c.loop-line.line-index c.deref-line-items.ensures.value c.loop-line-test.false c.loop-line.invariant.disputes_is)
+    totals_found c.args.self.now reports c.len.ensures.ordered stands _ _ _ c.len.ensures.len
+    (all_summed money_of _ _ _ c.in-None.ensures.steps.0 c.loop-kept.invariant.money_is)
+    (all_summed dispute_of _ _ _ c.in-None.ensures.steps.0 c.loop-kept.invariant.disputes_is)

@@ -1,11 +1,12 @@
-use Rattle.std.proofs.Common.{◌≡◌, ◌+◌, ◌*◌, ◌^◌, ◌≤◌, drop, length}
-use Rattle.sheet_book.specs.Lines.{sum_lines, line_dispute}
+use Rattle.std.proofs.Common.{◌≡◌, ◌+◌, ◌*◌, ◌≤◌, length}
+use Rattle.std.specs.BTreeMap.{values, btree_map_len}
+use Rattle.sheet_book.proofs.Entries.{sum_kept, money_of, dispute_of}
 use Rattle.sheet_book.proofs.book.Book.totals.Given as goal
 
-abbrev pub invariant-loop-line : goal.invariant-loop-line
-invariant-loop-line l = record {
-  money_is : l.money + sum_lines (λ line. line.money) (drop l.line-index l.line-items) ≡ sum_lines (λ line. line.money) l.line-items;
-  money_fits : l.money ≤ l.line-index * 18446744073709551615;
-  disputes_is : l.disputes + sum_lines line_dispute (drop l.line-index l.line-items) ≡ sum_lines line_dispute l.line-items;
-  disputes_fits : l.disputes ≤ l.line-index;
+abbrev pub invariant-loop-kept : goal.invariant-loop-kept
+invariant-loop-kept l = record {
+  money_is : l.money + sum_kept money_of l.kept-iterator ≡ sum_kept money_of (values l.self.places);
+  money_fits : l.money + length l.kept-iterator * 18446744073709551615 ≤ btree_map_len l.self.places * 18446744073709551615;
+  disputes_is : l.disputes + sum_kept dispute_of l.kept-iterator ≡ sum_kept dispute_of (values l.self.places);
+  disputes_fits : l.disputes + length l.kept-iterator ≤ btree_map_len l.self.places;
 }
