@@ -3,9 +3,8 @@ use Rattle.std.proofs.Common.{◌≡◌, ℕ, Bool, true, false, List, [], ◌�
 use Rattle.std.specs.Prelude.{◌||◌, is_some}
 use Rattle.std.proofs.lemmas.Bool.{cases_Bool}
 use Rattle.sheet_book.specs.declared.places.Key.{Key}
-use Rattle.sheet_book.specs.declared.sales.Sale.{Sale}
 use Rattle.sheet_book.specs.declared.sales.Totals.{Totals}
-use Rattle.sheet_book.specs.Reports.{Report, same_key, sales_of, kept_of, has_key, is_distinct, keys_of, money_at, dispute_at, totals_at, totals_of, IsAmong, SameReports, AreReportedOnce}
+use Rattle.sheet_book.specs.Reports.{Report, same_key, sales_of, kept_of, has_key, is_distinct, keys_of, money_at, dispute_at, totals_at, totals_of, IsAmong, IsReported, SameReports, AreReportedOnce}
 use Rattle.sheet_book.proofs.Sums.{key_is, key_self, sum_same, sum_pointwise, count_over}
 use Rattle.sheet_book.proofs.Least.{kept_money, kept_dispute, money_kept, dispute_kept}
 use Rattle.sheet_book.proofs.Keeping.{kept_same, has_kept, keys_distinct}
@@ -44,10 +43,6 @@ pub totals_same : (xs ys : List Report) → SameReports xs ys → totals_of xs �
 totals_same xs ys same =
     totals_over (keys_of xs) (keys_of ys) xs (keys_distinct xs) (keys_distinct ys) (λ key. has_kept key xs ∙ ap is_some (kept_same key xs ys same) ∙ sym (has_kept key ys))
     ∙ totals_pointwise (keys_of ys) xs ys same
-
--- a place has a report
-abbrev IsReported : Key → List Report → Type 0
-IsReported key reports = (sale : Sale) × IsAmong (record { key = key; sale = sale }) reports
 
 reported_more : (key : Key) (first : Report) (reports : List Report) → IsReported key reports → IsReported key (first ∷ reports)
 reported_more key first reports is = (is.0, inr is.1)

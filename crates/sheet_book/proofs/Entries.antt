@@ -58,20 +58,17 @@ report_stands old new key sale kept after is reports stands = λ q. after q ∙ 
     rw (at, f) (stands q))
     (cases_Bool (same_key q key))
 
--- the sale of what is kept is the least
-abbrev sale_in : Option Kept → Option Sale
-sale_in None = None
-sale_in (Some kept) = Some kept.sale
+-- nothing is kept of a place of which nothing was reported
+none_sold : (sales : List Sale) → kept_from sales ≡ None → sales ≡ []
+none_sold [] h = refl
+none_sold (sale ∷ sales) h = cc
 
-least_kept : (key : Key) (reports : List Report) (kept : Kept) → kept_of key reports ≡ Some kept → least (sales_of key reports) ≡ Some kept.sale
-least_kept key reports kept h = sale_from (sales_of key reports) ∙ ap sale_in h
-  where
-    sale_from : (sales : List Sale) → least sales ≡ sale_in (kept_from sales)
-    sale_from [] = refl
-    sale_from (sale ∷ sales) = refl
+pub none_reported : (old : Book) (key : Key) → get key_cmp old.places key ≡ None → (reports : List Report) → StandsFor old reports → sales_of key reports ≡ []
+none_reported old key none reports stands = none_sold (sales_of key reports) (sym (stands key) ∙ none)
 
-pub report_kept : (new : Book) (key : Key) (kept : Kept) → get key_cmp new.places key ≡ Some kept → (reports : List Report) → StandsFor new reports → least (sales_of key reports) ≡ Some kept.sale
-report_kept new key kept found reports stands = least_kept key reports kept (sym (stands key) ∙ found)
+-- a book with the same places stands for the same reports
+pub still_stands : (old new : Book) → new.places.entries ≡ old.places.entries → (reports : List Report) → StandsFor old reports → StandsFor new reports
+still_stands old new e reports stands = λ key. ap (λ es. lookup (is_at (key_cmp key)) es) e ∙ stands key
 
 -- places in order stand once each
 none_after : (key : Key) (ks : List Key) → AllByRecursion (λ k. key_cmp key k ≡ Less) ks → has_key ks key ≡ false

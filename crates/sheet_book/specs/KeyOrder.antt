@@ -12,4 +12,6 @@ key_cmp a b = ordering_then (slice_cmp nat_cmp a.sheet b.sheet) (nat_cmp a.place
 -- It is an order of all places.
 pub key_cmp_total : IsTotalOrder key_cmp
 key_cmp_total =
-    then_total (on_total (λ (key : Key). key.sheet) (lists_total nat_cmp_total)) (on_total (λ (key : Key). key.place) nat_cmp_total)
+    then_total
+    (on_total (λ (key : Key). key.sheet) (lists_total nat_cmp_total))
+    (on_total (λ (key : Key). key.place) nat_cmp_total)

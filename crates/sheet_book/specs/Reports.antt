@@ -1,5 +1,6 @@
 -- What the reports of agents come to: the same in whatever order they come, and however often each of them comes.
-use Rattle.std.specs.Prelude.{◌≡◌, ℕ, ◌+◌, Bool, true, false, not, ◌&&◌, ◌||◌, ◌==◌, nat_lt, List, [], ◌∷◌, length, Option, Some, None, ◌⊎◌, ◌↔◌, if◌then◌else◌}
+use Rattle.std.specs.Prelude.{◌≡◌, ℕ, ◌+◌, Bool, true, false, not, ◌&&◌, ◌||◌, ◌==◌, nat_lt, List, [], ◌∷◌, length}
+use Rattle.std.specs.Prelude.{Option, Some, None, ◌⊎◌, ◌↔◌, if◌then◌else◌}
 use Rattle.std.specs.List.{list_all, list_any}
 use Rattle.std.specs.Option.{option_map}
 use Rattle.ledger_spec.specs.Names.{same_name}
@@ -13,6 +14,14 @@ use Rattle.sheet_book.specs.declared.sales.Totals.{Totals}
 pub record Report : Type 0 where
   pub key : Key
   pub sale : Sale
+
+-- A place of the sheet with this name.
+abbrev pub key_at : List ℕ → ℕ → Key
+key_at sheet place = record { sheet = sheet; place = place }
+
+-- The report that the token at a place of a sheet was sold by the sale with this name, for this much money.
+abbrev pub report_of : List ℕ → ℕ → List ℕ → ℕ → Report
+report_of sheet place name money = record { key = key_at sheet place; sale = record { name = name; money = money } }
 
 -- Whether two places are one: the same number on the same sheet.
 abbrev pub same_key : Key → Key → Bool
@@ -50,7 +59,8 @@ differ (sale ∷ sales) = not (list_all (same_sale sale) sales) || differ sales
 -- What is kept of a place: the least sale that was reported, and whether two of them differ. Nothing where none was.
 abbrev pub kept_of : Key → List Report → Option Kept
 kept_of key reports =
-    option_map (λ sale. record { sale = sale; disputed = differ (sales_of key reports) }) (least (sales_of key reports))
+    let sales : List Sale = sales_of key reports in
+    option_map (λ sale. record { sale = sale; disputed = differ sales }) (least sales)
 
 -- Whether a place is among these.
 abbrev pub has_key : List Key → Key → Bool
@@ -107,7 +117,11 @@ IsAmong report (first ∷ reports) = (report ≡ first) ⊎ IsAmong report repor
 abbrev pub SameReports : List Report → List Report → Type 0
 SameReports xs ys = (report : Report) → (IsAmong report xs ↔ IsAmong report ys)
 
+-- There is a report of this place.
+abbrev pub IsReported : Key → List Report → Type 0
+IsReported key reports = (sale : Sale) × IsAmong (record { key = key; sale = sale }) reports
+
 -- These are the places of which there is a report, and no other, and each of them once.
 pub record AreReportedOnce (keys : List Key) (reports : List Report) : Type 0 where
   pub once : is_distinct keys ≡ true
-  pub reported : (key : Key) → (has_key keys key ≡ true) ↔ ((sale : Sale) × IsAmong (record { key = key; sale = sale }) reports)
+  pub reported : (key : Key) → (has_key keys key ≡ true) ↔ IsReported key reports

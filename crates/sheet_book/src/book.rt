@@ -1,7 +1,7 @@
 // The book of the sales that agents reported.
-ghost use Rattle.std.specs.Prelude.{◌≡◌, IfOk, OnErr, List, [], ◌∷◌, Some};
+ghost use Rattle.std.specs.Prelude.{◌≡◌, IfOk, IsOkAnd, OnErr, List, [], ◌∷◌, Some};
 ghost use Rattle.std.specs.BTreeMap.{get, IsUnchanged};
-ghost use Rattle.sheet_book.specs.Reports.{Report, least, sales_of, totals_of};
+ghost use Rattle.sheet_book.specs.Reports.{Report, key_at, report_of, least, sales_of, totals_of};
 ghost use Rattle.sheet_book.specs.KeyOrder.{key_cmp};
 ghost use Rattle.sheet_book.specs.Books.{StandsFor, kept_with};
 
@@ -12,17 +12,17 @@ use paygo_spec::Memory;
 use std::alloc::Global;
 use std::collections::BTreeMap;
 
-/// The sales that were reported of the tokens on sheets. It has a line for each place with a report, however many reports
-/// there were, and a report costs a search among the lines in their order.
+/// The sales that agents reported of the tokens on their sheets. It keeps each place with a report once, however many reports
+/// there were of it, and finds it by a search among the places in their order.
 #[derive(Drop)]
 pub struct Book {
     places: BTreeMap<Key, Kept>,
 }
 
 impl Book {
-    /// A book with no report. `Memory` where there was none for it.
+    /// A book with no report. It takes no memory yet, so that it is always made.
     pub fn new(alloc: Global) -> Result<Book, Memory>
-        ensures { IfOk result (λ book. StandsFor book []) }
+        ensures { IsOkAnd result (λ book. StandsFor book []) }
     {
         Ok(Book {
             places: BTreeMap::new(alloc),
@@ -42,13 +42,13 @@ impl Book {
         }
     }
 
-    /// An agent reports a sale of the token at a place of a sheet, for this much money. Any name, place and money may be
-    /// reported, in any order, and as often as he likes. The answer is the sale that counts, and its money: the least of those
-    /// that were reported of the place, this one among them, by the bytes of its name and then by its money.
+    /// An agent reports a sale of the token at a place of a sheet, for this much money. Any sheet, place, sale and money may be
+    /// reported, in any order, and as often as the agent likes. The answer is the sale that counts, and its money: the least of
+    /// those that were reported of the place, this one among them, by the bytes of its name and then by its money.
     ///
     /// # Errors
     ///
-    /// `Memory`: there was none for the first report of a place, and the book is as before.
+    /// `Memory`: there was none for the first report of a place. The book is as before.
     pub fn report(
         &mut self,
         sheet: &Name,
@@ -57,13 +57,11 @@ impl Book {
         money: u64,
     ) -> Result<(Name, u64), Memory>
         ensures stands { IfOk result (λ kept. (reports : List Report) → StandsFor self.old reports →
-            StandsFor self.new (record {
-              key = record { sheet = sheet.now; place = place };
-              sale = record { name = sale.now; money = money };
-            } ∷ reports)) }
+            StandsFor self.new (report_of sheet.now place sale.now money ∷ reports)) }
         ensures kept { IfOk result (λ kept. (reports : List Report) → StandsFor self.new reports →
-            least (sales_of (record { sheet = sheet.now; place = place }) reports)
-            ≡ Some (record { name = kept.0; money = kept.1 })) }
+            least (sales_of (key_at sheet.now place) reports) ≡ Some (record { name = kept.0; money = kept.1 })) }
+        ensures first { OnErr result ((reports : List Report) → StandsFor self.old reports →
+            sales_of (key_at sheet.now place) reports ≡ []) }
         ensures memory { OnErr result (IsUnchanged self.old.places self.new.places) }
     {
         let key = Key {
@@ -79,7 +77,8 @@ impl Book {
         }
     }
 
-    /// What all reports come to.
+    /// What all reports come to: how many tokens were sold, for how much money, and of how many of them two reports differ. A
+    /// token is counted once, with the sale that counts.
     pub fn totals(&self) -> Totals
         ensures { (reports : List Report) → StandsFor self.now reports → result ≡ totals_of reports }
     {

@@ -3,7 +3,8 @@
 
 ghost use Rattle.std.specs.Prelude.{◌≡◌, List};
 ghost use Rattle.sheet_book.specs.declared.places.Key.{Key};
-ghost use Rattle.sheet_book.specs.Reports.{Report, SameReports, AreReportedOnce, keys_of, totals_at, totals_of};
+ghost use Rattle.sheet_book.specs.Reports.{Report, SameReports, AreReportedOnce};
+ghost use Rattle.sheet_book.specs.Reports.{keys_of, totals_at, totals_of};
 
 mod book;
 mod places;
