@@ -26,3 +26,6 @@ pub fn no_token_is_counted_twice()
     ensures any { (keys : List Key) (reports : List Report) → AreReportedOnce keys reports →
         totals_of reports ≡ totals_at keys reports }
 {}
+
+#[cfg(test)]
+mod tests;
