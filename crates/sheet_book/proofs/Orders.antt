@@ -1,5 +1,6 @@
 -- The order of sales is a total one.
-use Rattle.std.proofs.Common.{◌≡◌, ℕ, ◌<◌, true, false, ◌==◌, List, refl, sym, ap, ◌∙◌, subst, inl, inr, ⊎_elim, arith}
+use Rattle.std.proofs.Common.{◌≡◌, ℕ, ◌<◌, true, false, ◌==◌, List, refl, sym, ap, ◌∙◌, subst, inl, inr, ⊎_elim}
+use Rattle.std.proofs.Common.{arith}
 use Rattle.std.specs.Prelude.{◌&&◌, ◌⊎◌, nat_lt}
 use Rattle.std.specs.Ordering.{is_lt, is_eq, nat_cmp, ordering_reverse}
 use Rattle.std.specs.declared.cmp.Ordering.{Ordering}
@@ -45,7 +46,12 @@ name_on a b c x y = ap is_lt (nat_list_cmp_total.trans a b c (lt_is _ x) (lt_is 
 name_total : (a b : List ℕ) → name_before a b ≡ false → name_before b a ≡ false → a ≡ b
 unfolding name_before
 name_total a b x y =
-    (bytes_eq-Decides a b).0 (sym (is_eq-slice_cmp a b) ∙ both_ways (slice_cmp nat_cmp a b) (slice_cmp nat_cmp b a) (nat_list_cmp_total.antisymm a b) x y)
+    (bytes_eq-Decides a b).0 (sym (is_eq-slice_cmp a b)
+    ∙ both_ways (slice_cmp nat_cmp a b) (slice_cmp nat_cmp b a) (nat_list_cmp_total.antisymm a b) x y)
+
+-- two sales with one name and the same money are one
+one_sale : (a b : Sale) → a.name ≡ b.name → a.money ≡ b.money → a ≡ b
+one_sale a b e n = ap (λ x. record { name = x; money = a.money }) e ∙ ap (λ x. record { name = b.name; money = x }) n
 
 pub sale_is : (a b : Sale) → same_sale a b ≡ true → a ≡ b
 sale_is a b h =
@@ -53,16 +59,19 @@ sale_is a b h =
     let s = same_is a.name b.name p.0 in
     let q = p.1 in
     let n : a.money ≡ b.money = grind (arith, nat_tests) in
-    ap (λ x. record { name = x; money = a.money }) s ∙ ap (λ x. record { name = b.name; money = x }) n
+    one_sale a b s n
 
 pub sale_self : (a : Sale) → same_sale a a ≡ true
-sale_self a = let s = self_same a.name in let n : (a.money == a.money) ≡ true = grind (arith, nat_tests) in rw (s, n) refl
+sale_self a = let s = self_same a.name in let n : (a.money == a.money) ≡ true = grind (arith, nat_tests) in
+    rw (s, n) refl
 
 pub before_self : (a : Sale) → sale_before a a ≡ false
-before_self a = let s = name_self a.name in let n : nat_lt a.money a.money ≡ false = grind (arith, nat_tests) in let t = self_same a.name in rw (s, t, n) refl
+before_self a = let s = name_self a.name in let n : nat_lt a.money a.money ≡ false = grind (arith, nat_tests) in
+    let t = self_same a.name in rw (s, t, n) refl
 
 -- before by name, or of one name with less money
-before_parts : (a b : Sale) → sale_before a b ≡ true → (name_before a.name b.name ≡ true) ⊎ ((a.name ≡ b.name) × (a.money < b.money))
+before_parts : (a b : Sale) → sale_before a b ≡ true
+    → (name_before a.name b.name ≡ true) ⊎ ((a.name ≡ b.name) × (a.money < b.money))
 before_parts a b h =
     ⊎_elim
     (λ (t : name_before a.name b.name ≡ true). inl t)
@@ -79,7 +88,8 @@ by_money : (a b : Sale) → a.name ≡ b.name → a.money < b.money → sale_bef
 by_money a b e l =
     let s : same_name a.name b.name ≡ true = subst (λ n. same_name a.name n ≡ true) e (self_same a.name) in
     let n : nat_lt a.money b.money ≡ true = grind (arith, nat_tests) in
-    ⊎_elim (λ (t : name_before a.name b.name ≡ true). rw t refl) (λ (f : name_before a.name b.name ≡ false). rw (f, s, n) refl) (cases_Bool (name_before a.name b.name))
+    ⊎_elim (λ (t : name_before a.name b.name ≡ true). rw t refl)
+    (λ (f : name_before a.name b.name ≡ false). rw (f, s, n) refl) (cases_Bool (name_before a.name b.name))
 
 pub before_on : (a b c : Sale) → sale_before a b ≡ true → sale_before b c ≡ true → sale_before a c ≡ true
 before_on a b c x y =
@@ -90,7 +100,8 @@ before_on a b c x y =
     (before_parts b c y))
     (λ (s : (a.name ≡ b.name) × (a.money < b.money)). ⊎_elim
     (λ (t : name_before b.name c.name ≡ true). by_name a c (subst (λ n. name_before n c.name ≡ true) (sym s.0) t))
-    (λ (t : (b.name ≡ c.name) × (b.money < c.money)). by_money a c (s.0 ∙ t.0) (let l = s.1 in let m = t.1 in omega arith))
+    (λ (t : (b.name ≡ c.name) × (b.money < c.money)). by_money a c (s.0 ∙ t.0)
+    (let l = s.1 in let m = t.1 in omega arith))
     (before_parts b c y))
     (before_parts a b x)
 
@@ -100,10 +111,12 @@ before_total a b x y =
     let q = or_parts (name_before b.name a.name) (same_name b.name a.name && nat_lt b.money a.money) y in
     let e = name_total a.name b.name p.0 q.0 in
     let n : a.money ≡ b.money = ⊎_elim
-    (λ (t : nat_lt a.money b.money ≡ true). let l : a.money < b.money = grind (arith, nat_tests) in absurd (let r = by_money a b e l in let z : true ≡ false = sym r ∙ x in cc))
+    (λ (t : nat_lt a.money b.money ≡ true). let l : a.money < b.money = grind (arith, nat_tests) in
+    absurd (let r = by_money a b e l in let z : true ≡ false = sym r ∙ x in cc))
     (λ (f : nat_lt a.money b.money ≡ false). ⊎_elim
-    (λ (t : nat_lt b.money a.money ≡ true). let l : b.money < a.money = grind (arith, nat_tests) in absurd (let r = by_money b a (sym e) l in let z : true ≡ false = sym r ∙ y in cc))
+    (λ (t : nat_lt b.money a.money ≡ true). let l : b.money < a.money = grind (arith, nat_tests) in
+    absurd (let r = by_money b a (sym e) l in let z : true ≡ false = sym r ∙ y in cc))
     (λ (g : nat_lt b.money a.money ≡ false). grind (arith, nat_tests))
     (cases_Bool (nat_lt b.money a.money)))
     (cases_Bool (nat_lt a.money b.money)) in
-    ap (λ z. record { name = z; money = a.money }) e ∙ ap (λ z. record { name = b.name; money = z }) n
+    one_sale a b e n

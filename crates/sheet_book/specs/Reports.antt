@@ -41,7 +41,7 @@ sales_of key [] = []
 sales_of key (report ∷ reports) =
     if same_key key report.key then report.sale ∷ sales_of key reports else sales_of key reports
 
--- A sale, or another one that stands before it.
+-- The one of two sales that stands before the other. Where there is no other, it is the sale itself.
 abbrev pub lesser : Sale → Option Sale → Sale
 lesser sale None = sale
 lesser sale (Some other) = if sale_before sale other then sale else other
@@ -82,11 +82,12 @@ abbrev pub sum_over : (Key → ℕ) → List Key → ℕ
 sum_over f [] = 0
 sum_over f (key ∷ keys) = f key + sum_over f keys
 
--- The money that was taken for the token at a place: that of the least sale.
+-- The money of a sale, or 0 where there is none.
 abbrev pub money_in : Option Sale → ℕ
 money_in None = 0
 money_in (Some sale) = sale.money
 
+-- The money that was taken for the token at a place.
 abbrev pub money_at : List Report → Key → ℕ
 money_at reports key = money_in (least (sales_of key reports))
 

@@ -12,8 +12,8 @@ use paygo_spec::Memory;
 use std::alloc::Global;
 use std::collections::BTreeMap;
 
-/// The sales that agents reported of the tokens on their sheets. It keeps each place with a report once, however many reports
-/// there were of it, and finds it by a search among the places in their order.
+/// The sales that agents reported of the tokens on their sheets. It keeps each place with a report once, however many
+/// reports there were of it, and finds it by a search among the places in their order.
 #[derive(Drop)]
 pub struct Book {
     places: BTreeMap<Key, Kept>,
@@ -42,9 +42,10 @@ impl Book {
         }
     }
 
-    /// An agent reports a sale of the token at a place of a sheet, for this much money. Any sheet, place, sale and money may be
-    /// reported, in any order, and as often as the agent likes. The answer is the sale that counts, and its money: the least of
-    /// those that were reported of the place, this one among them, by the bytes of its name and then by its money.
+    /// An agent reports a sale of the token at a place of a sheet, for this much money. Any sheet, place, sale and
+    /// money may be reported, in any order, and as often as the agent likes. The answer is the sale that counts, and
+    /// its money: the least of those that were reported of the place, this one among them, by the bytes of its name
+    /// and then by its money.
     ///
     /// # Errors
     ///
@@ -77,8 +78,8 @@ impl Book {
         }
     }
 
-    /// What all reports come to: how many tokens were sold, for how much money, and of how many of them two reports differ. A
-    /// token is counted once, with the sale that counts.
+    /// What all reports come to: how many tokens were sold, for how much money, and of how many of them two reports
+    /// differ. A token is counted once, with the sale that counts.
     pub fn totals(&self) -> Totals
         ensures { (reports : List Report) → StandsFor self.now reports → result ≡ totals_of reports }
     {

@@ -19,8 +19,8 @@ pub fn order_and_repeats_do_not_matter()
     ensures { (xs ys : List Report) → SameReports xs ys → totals_of xs ≡ totals_of ys }
 {}
 
-/// No token is counted twice, and none is forgotten: the totals go over the places of which there is a report, each once.
-/// They are the same over every list of those places that has each of them once.
+/// No token is counted twice, and none is forgotten: the totals go over the places of which there is a report, each of
+/// them once. They are the same over every list of those places that has each of them once.
 pub fn no_token_is_counted_twice()
     ensures each { (reports : List Report) → AreReportedOnce (keys_of reports) reports }
     ensures any { (keys : List Key) (reports : List Report) → AreReportedOnce keys reports →

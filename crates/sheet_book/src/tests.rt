@@ -64,8 +64,8 @@ fn the_least_by_name_and_then_by_money(rt: HostRuntime) {
         (1, b"x1", 501, b"x1", 499),
     ];
     assert_eq!(rt; told(alloc, &by_money), totals(1, 499, 1));
-    // A digit stands before each capital letter, which stands before `_`, and that before each small letter. A name stands
-    // before each longer one that begins with it.
+    // A digit stands before each capital letter, which stands before `_`, and that before each small letter. A name
+    // stands before each longer one that begins with it.
     let by_name: [Row; 7] = [
         (8, b"xx", 1, b"xx", 1),
         (8, b"x", 2, b"x", 2),
@@ -110,7 +110,8 @@ fn report_drawn(book: &mut Book, index: u32) -> Option<()> {
     let sheet = name([b'A', b'B', b'C', b'D'][(drawn / 800 % 4) as usize], drawn)?;
     let sale = name(b'x', drawn / 5000 % 3)?;
     let place = (drawn / 100 % 8 + 1) as u8;
-    book.report(&sheet, place, &sale, u64::from(300 + index % 3)).ok()?;
+    book.report(&sheet, place, &sale, u64::from(300 + index % 3))
+        .ok()?;
     Some(())
 }
 
