@@ -22,7 +22,7 @@ use Rattle.sheet_book.specs.declared.sales.Sale.{Sale}
 use Rattle.sheet_book.specs.declared.sales.Kept.{Kept}
 use Rattle.sheet_book.specs.declared.book.Book.{Book}
 use Rattle.sheet_book.specs.KeyOrder.{key_cmp}
-use Rattle.sheet_book.specs.Books.{StandsFor, kept_with}
+use Rattle.sheet_book.specs.Books.{StandsFor, KeepsSame, kept_with}
 use Rattle.sheet_book.specs.Reports as reported
 use Rattle.sheet_book.specs.Reports.{Report, same_key, sales_of, kept_of, has_key, is_distinct, sum_over, money_at}
 use Rattle.sheet_book.specs.Reports.{dispute_at, totals_at, totals_of, least}
@@ -73,10 +73,9 @@ pub none_reported : (old : Book) (key : Key) → get key_cmp old.places key ≡ 
     → StandsFor old reports → sales_of key reports ≡ []
 none_reported old key none reports stands = none_sold (sales_of key reports) (sym (stands key) ∙ none)
 
--- a book with the same places stands for the same reports
-pub still_stands : (old new : Book) → new.places.entries ≡ old.places.entries → (reports : List Report)
-    → StandsFor old reports → StandsFor new reports
-still_stands old new e reports stands = λ key. ap (λ es. lookup (is_at (key_cmp key)) es) e ∙ stands key
+-- a book with the same entries keeps the same
+pub same_kept : (old new : Book) → new.places.entries ≡ old.places.entries → KeepsSame old new
+same_kept old new e = λ key. ap (λ es. lookup (is_at (key_cmp key)) es) e
 
 -- places in order stand once each
 none_after : (key : Key) (ks : List Key) → AllByRecursion (λ k. key_cmp key k ≡ Less) ks → has_key ks key ≡ false

@@ -12,6 +12,10 @@ use Rattle.sheet_book.specs.Reports.{Report, same_sale, lesser, kept_of}
 abbrev pub StandsFor : Book → List Report → Type 0
 StandsFor book reports = (key : Key) → get key_cmp book.places key ≡ kept_of key reports
 
+-- Each place has after it what it had before: the book stands for the same reports.
+abbrev pub KeepsSame : Book → Book → Type 0
+KeepsSame before after = (key : Key) → get key_cmp after.places key ≡ get key_cmp before.places key
+
 -- What is kept of a place after one more report, where this was kept of it before.
 abbrev pub kept_with : Sale → Option Kept → Kept
 kept_with sale None = record { sale = sale; disputed = false }

@@ -1,9 +1,9 @@
 // The book of the sales that agents reported.
 ghost use Rattle.std.specs.Prelude.{◌≡◌, IfOk, IsOkAnd, OnErr, List, [], ◌∷◌, Some};
-ghost use Rattle.std.specs.BTreeMap.{get, IsUnchanged};
+ghost use Rattle.std.specs.BTreeMap.{get};
 ghost use Rattle.sheet_book.specs.Reports.{Report, key_at, report_of, least, sales_of, totals_of};
 ghost use Rattle.sheet_book.specs.KeyOrder.{key_cmp};
-ghost use Rattle.sheet_book.specs.Books.{StandsFor, kept_with};
+ghost use Rattle.sheet_book.specs.Books.{StandsFor, KeepsSame, kept_with};
 
 use crate::places::Key;
 use crate::sales::{Kept, Sale, Totals};
@@ -63,7 +63,7 @@ impl Book {
             least (sales_of (key_at sheet.now place) reports) ≡ Some (record { name = kept.0; money = kept.1 })) }
         ensures first { OnErr result ((reports : List Report) → StandsFor self.old reports →
             sales_of (key_at sheet.now place) reports ≡ []) }
-        ensures memory { OnErr result (IsUnchanged self.old.places self.new.places) }
+        ensures memory { OnErr result (KeepsSame self.old self.new) }
     {
         let key = Key {
             sheet: *sheet,
@@ -71,7 +71,7 @@ impl Book {
         };
         let sale = Sale { name: *sale, money };
         let kept = self.kept_with(&key, &sale);
-        let answer = kept.sale();
+        let answer = kept.answer();
         match self.places.insert(key, kept) {
             Ok(_) => Ok(answer),
             Err(_) => Err(Memory),

@@ -11,6 +11,7 @@ mod places;
 mod sales;
 
 pub use book::Book;
+// What the contracts speak of.
 pub use places::Key;
 pub use sales::{Kept, Sale, Totals};
 

@@ -48,8 +48,8 @@ impl Sale {
 }
 
 impl Kept {
-    /// The sale that counts, and its money.
-    pub(crate) fn sale(&self) -> (Name, u64)
+    /// The sale that counts, and its money, as a report is answered.
+    pub(crate) fn answer(&self) -> (Name, u64)
         ensures name { result.0 ≡ self.now.sale.name }
         ensures money { result.1 ≡ self.now.sale.money }
     {

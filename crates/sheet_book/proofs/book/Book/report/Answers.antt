@@ -1,5 +1,5 @@
 use Rattle.sheet_book.specs.declared.book.Book.{Book}
-use Rattle.sheet_book.proofs.Entries.{report_stands, none_reported}
+use Rattle.sheet_book.proofs.Entries.{report_stands, none_reported, same_kept}
 use Rattle.sheet_book.proofs.book.Book.report.Goals as goal
 
 pub returns-in-Ok-clause-stands : goal.returns-in-Ok-clause-stands
@@ -9,3 +9,6 @@ returns-in-Ok-clause-stands c =
 
 pub returns-in-Err-clause-first : goal.returns-in-Err-clause-first
 returns-in-Err-clause-first c = none_reported c.args.self.now _ c.in-Err.ensures.absent
+
+pub returns-in-Err-clause-memory : goal.returns-in-Err-clause-memory
+returns-in-Err-clause-memory c = same_kept c.args.self.now (record { places = c.insert.new.self }) c.in-Err.ensures.err
