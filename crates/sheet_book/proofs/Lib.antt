@@ -1,0 +1,6 @@
+pub mod Sums
+pub mod Orders
+pub mod Least
+pub mod Keeping
+pub mod Counting
+pub mod Entries

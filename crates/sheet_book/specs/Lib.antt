@@ -1,0 +1,3 @@
+pub mod Reports
+pub mod KeyOrder
+pub mod Books
