@@ -1,5 +1,5 @@
 -- The forms of words on the command line, and what is said of a status.
-use Rattle.std.specs.Prelude.{◌==◌, ◌&&◌, ◌-◌, ◌^◌, ◌≤◌, nat_le, nat_lt, length, List, [], ◌∷◌, ℕ, codes, Option, Some, None, option_and_then, if◌then◌else◌}
+use Rattle.std.specs.Prelude.{◌==◌, ◌&&◌, ◌-◌, ◌^◌, ◌≤◌, nat_le, nat_lt, length, Bool, true, false, List, [], ◌∷◌, ℕ, codes, Option, Some, None, option_and_then, if◌then◌else◌}
 use Rattle.std.specs.Str.{bytes_eq}
 use Rattle.paygo_spec.specs.Words.{decimal_in}
 use Rattle.ledger_spec.specs.Names.{name_in}
@@ -8,6 +8,10 @@ use Rattle.run_spec.specs.declared.Status.{Status}
 use Rattle.run_spec.specs.declared.Status.TheVariants as status
 use Rattle.paygo_cli.specs.declared.words.Work.{Work}
 use Rattle.paygo_cli.specs.declared.words.Work.TheVariants as work
+
+-- `check`
+abbrev pub work_alone : List ℕ → Option Work
+work_alone word = if bytes_eq word (codes "check") then Some work.Check else None
 
 -- What the words ask for by the first one and the name of one file, which isn't empty: `serve DB`, `device FLASH` or `audit DB`.
 abbrev pub work_with_file : List ℕ → List ℕ → Option Work
@@ -79,10 +83,17 @@ work_with_three word first second third =
 
 -- Other words are of no form.
 abbrev pub work_of : List (List ℕ) → Option Work
+work_of (word ∷ []) = work_alone word
 work_of (word ∷ file ∷ []) = work_with_file word file
 work_of (word ∷ tables ∷ flash ∷ []) = work_with_files word tables flash
 work_of (word ∷ first ∷ second ∷ third ∷ []) = work_with_three word first second third
 work_of _ = None
+
+-- Whether what is asked for takes the lines of the input.
+abbrev pub takes_lines : Option Work → Bool
+takes_lines (Some (work.Lines mode)) = true
+takes_lines (Some work.Check) = true
+takes_lines _ = false
 
 -- The numbers of a fleet are in range.
 pub record FleetIsInRange (devices days : ℕ) : Type 0 where
@@ -97,7 +108,7 @@ WorkIsInRange _ = Unit {0}
 abbrev pub message_of : Status → Option (List ℕ)
 message_of status.Ok = None
 message_of status.Usage =
-    Some (codes "usage: paygo serve DB | device FLASH | bench DB FLASH | audit DB | fleet SEED DEVICES DAYS | advise DB SERIAL FLOOR | ring FLASH BANKS")
+    Some (codes "usage: paygo serve DB | device FLASH | bench DB FLASH | audit DB | fleet SEED DEVICES DAYS | advise DB SERIAL FLOOR | check | ring FLASH BANKS")
 message_of status.Read = Some (codes "paygo: read fault")
 message_of status.Write = Some (codes "paygo: write fault")
 message_of status.Keep = Some (codes "paygo: keeper fault")

@@ -9,7 +9,8 @@ ghost use Rattle.line_loop.specs.Outside.{outside, Causes, IsCalm, IsLong, Reads
 ghost use Rattle.bench_loop.specs.Runs.{RunsTold, RunsUnseen};
 ghost use Rattle.deal_runs.specs.Programs.{RunsOn};
 ghost use Rattle.paygo_cli.specs.declared.words.Behind.{Behind};
-ghost use Rattle.paygo_cli.specs.Forms.{work_of};
+ghost use Rattle.check_loop.specs.Logs.{ChecksLog};
+ghost use Rattle.paygo_cli.specs.Forms.{work_of, takes_lines};
 ghost use Rattle.paygo_cli.specs.Ends.{WritesText, WritesFleet};
 ghost use Rattle.paygo_cli.specs.Advised.{WritesAdvice};
 
@@ -19,6 +20,7 @@ use crate::simulating::run_simulation;
 use crate::words::{Work, work_in};
 use ledger_keeper::Keeper;
 use bench_loop::run_bench;
+use check_loop::run_check;
 use paygo_ports::{Flash, Sink, Source};
 use run_spec::Status;
 use std::alloc::Global;
@@ -30,7 +32,8 @@ use token_chain::Mixer;
 /// that is said of `device` holds of it; its caller hands in a ring of so many banks (`banks_in`) as the flash. `audit DB` checks each token that the keeper's tables
 /// hold, and writes the ids of the wrong ones and how many there are. `fleet SEED DEVICES DAYS` draws a fleet from the seed, runs
 /// it in memory, and writes its totals. `advise DB SERIAL FLOOR` writes the fewest of the serial's orders whose tokens bring a
-/// device up to date whose last count is at least the floor.
+/// device up to date whose last count is at least the floor. `check` takes the lines of the source as a log of a `bench` run, and
+/// writes whether any run of shop and device that began with empty tables and an erased flash has it.
 ///
 /// - `Usage` exactly where the words are no form that the program knows. Nothing is read or written then.
 /// - `Ok` where lines are taken only where the source has told its end; every line was answered. Of an audit, a fleet and an
@@ -38,10 +41,11 @@ use token_chain::Mixer;
 /// - `Read` where the source failed, and only where lines are taken. Every whole line was answered.
 /// - `Write` where the sink failed. The steps of the lines were answered up to one whose answer was cut, and no later one was
 ///   taken; each earlier answer was written whole. The text of an audit, a fleet or an advice was cut.
-/// - `Keep` where the keeper failed, and never for `device` and `fleet`. Every line before one that asks for a command was
+/// - `Keep` where the keeper failed, and never for `device`, `fleet` and `check`. Every line before one that asks for a command was
 ///   answered; the tables are as before that command, or have its whole change. Of an audit and an advice nothing was written.
-/// - `Memory` where there was none for a line of the ledger, for the audit, the fleet or the advice; never for `device`. Every line
-///   before it was answered, and the tables are as before it. Of an audit, a fleet and an advice nothing was written.
+/// - `Memory` where there was none for a line of the ledger or of a log, for the audit, the fleet or the advice; never for `device`. Every line
+///   before it was answered, and the tables are as before it. Of an audit, a fleet, an advice and a check nothing was
+///   written.
 /// - `Long` where lines are taken, exactly where 2^40 bytes were handed out, the source hasn't told its end, and every whole line
 ///   was answered.
 ///
@@ -60,8 +64,9 @@ use token_chain::Mixer;
 /// Where a line failed, less than a block of 8,192 bytes was handed out behind it. An audit changes nothing, and writes what there
 /// is to find in tables that are told (`audited`). A fleet's totals are those of shop and devices on the days that the seed draws,
 /// each planned power cut in the event in which it falls; where none is planned they are a function of the words (`simulated`). An
-/// advice changes nothing, and over tables that are told what is written is that of the device's orders and limit (`advised`). It
-/// takes memory but for `device`.
+/// advice changes nothing, and over tables that are told what is written is that of the device's orders and limit (`advised`). A
+/// check writes the verdict on the log, `yes` exactly where it is the whole log of a run and never more than 64 states fit
+/// (`checked`, with the laws of log_check). It takes memory but for `device`.
 pub fn run<M: Mixer, S: Source, K: Sink, D: Keeper, F: Flash>(
     alloc: Global,
     words: &[&str],
@@ -87,14 +92,16 @@ pub fn run<M: Mixer, S: Source, K: Sink, D: Keeper, F: Flash>(
         work_of (map (λ word. word.now) words.now) ≡ Some (Work.Advise behind) →
         (source.new ≡ source.old) × (flash.new ≡ flash.old) ×
         ((D.view keeper.new).tables ≡ (D.view keeper.old).tables) × (result ≢ Status.Read) × (result ≢ Status.Long) }
+    ensures check { work_of (map (λ word. word.now) words.now) ≡ Some Work.Check →
+        (keeper.new ≡ keeper.old) × (flash.new ≡ flash.old) × (result ≢ Status.Keep) }
     ensures causes { Causes (Some result)
         (outside (S.view source.old) (K.view sink.old) (D.view keeper.old) (F.view flash.old))
         (outside (S.view source.new) (K.view sink.new) (D.view keeper.new) (F.view flash.new)) }
-    ensures ended { (mode : Taken) → work_of (map (λ word. word.now) words.now) ≡ Some (Work.Lines mode) →
-        result ≡ Status.Ok → (S.view source.new).ended ≡ true }
-    ensures long { (mode : Taken) → work_of (map (λ word. word.now) words.now) ≡ Some (Work.Lines mode) →
+    ensures ended { takes_lines (work_of (map (λ word. word.now) words.now)) ≡ true → result ≡ Status.Ok →
+        (S.view source.new).ended ≡ true }
+    ensures long { takes_lines (work_of (map (λ word. word.now) words.now)) ≡ true →
         IsLong result (S.view source.old) (S.view source.new) }
-    ensures read { (mode : Taken) → work_of (map (λ word. word.now) words.now) ≡ Some (Work.Lines mode) →
+    ensures read { takes_lines (work_of (map (λ word. word.now) words.now)) ≡ true →
         Reads result (S.view source.old) (S.view source.new) }
     ensures complete { result ≢ Status.Usage → IsCalm (S.view source.old).faults (S.view source.new).faults →
         IsCalm (K.view sink.old).faults (K.view sink.new).faults →
@@ -123,6 +130,8 @@ pub fn run<M: Mixer, S: Source, K: Sink, D: Keeper, F: Flash>(
         (tables : Tables) → (D.view keeper.old).tables ≡ Some tables →
         WritesAdvice (row_of tables behind.serial) (orders_for tables behind.serial) behind.floor result
         (K.view sink.old) (K.view sink.new) }
+    ensures checked { work_of (map (λ word. word.now) words.now) ≡ Some Work.Check →
+        ChecksLog M.next result (S.view source.old) (S.view source.new) (K.view sink.old) (K.view sink.new) }
 {
     match work_in(words) {
         Some(Work::Lines(mode)) => {
@@ -137,6 +146,7 @@ pub fn run<M: Mixer, S: Source, K: Sink, D: Keeper, F: Flash>(
             },
         ) => run_simulation::<M, K>(alloc, seed, devices, days, sink),
         Some(Work::Advise(behind)) => run_advice::<K, D>(alloc, &behind, sink, keeper),
+        Some(Work::Check) => run_check::<M, S, K, D, F>(alloc, source, sink, keeper, flash),
         None => Status::Usage,
     }
 }

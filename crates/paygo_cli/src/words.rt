@@ -1,7 +1,7 @@
 // The words of the command line, and what is said of a status.
 ghost use Rattle.std.specs.Prelude.{◌≡◌, ◌<◌, ◌≤◌, ◌^◌, IfSome, length, map, option_copied};
 ghost use Rattle.paygo_spec.specs.Words.{is_decimal, digits_from, decimal_in};
-ghost use Rattle.paygo_cli.specs.Forms.{banks_of, banks_with, work_with_banks, work_with_file, work_with_files, work_with_numbers, work_with_serial, work_with_three, floor_in, number_between, work_of, WorkIsInRange, message_of};
+ghost use Rattle.paygo_cli.specs.Forms.{banks_of, banks_with, work_alone, work_with_banks, work_with_file, work_with_files, work_with_numbers, work_with_serial, work_with_three, floor_in, number_between, work_of, WorkIsInRange, message_of};
 
 use ledger_spec::Name;
 use run_spec::{Mode, Status};
@@ -18,6 +18,8 @@ pub enum Work {
     Fleet { seed: u64, devices: u32, days: u32 },
     /// The way back is told for a device that fell behind: `advise DB SERIAL FLOOR`.
     Advise(Behind),
+    /// The lines are a log of a `bench` run, and it is said whether a run has it: `check`.
+    Check,
 }
 
 /// A device that fell behind, as the words tell of it.
@@ -35,10 +37,23 @@ pub fn work_in(words: &[&str]) -> Option<Work>
     ensures range { IfSome result WorkIsInRange }
 {
     match words {
+        [word] => alone(word),
         [word, file] => with_file(word, file),
         [word, first, second] => with_files(word, first, second),
         [word, first, second, third] => with_three(word, first, second, third),
         _ => None,
+    }
+}
+
+// `check`
+fn alone(word: &str) -> Option<Work>
+    ensures work { result ≡ work_alone word.now }
+    ensures range { IfSome result WorkIsInRange }
+{
+    if word == "check" {
+        Some(Work::Check)
+    } else {
+        None
     }
 }
 
@@ -196,7 +211,7 @@ pub fn message(status: Status) -> Option<&'static str>
     match status {
         Status::Ok => None,
         Status::Usage => Some(
-            "usage: paygo serve DB | device FLASH | bench DB FLASH | audit DB | fleet SEED DEVICES DAYS | advise DB SERIAL FLOOR | ring FLASH BANKS",
+            "usage: paygo serve DB | device FLASH | bench DB FLASH | audit DB | fleet SEED DEVICES DAYS | advise DB SERIAL FLOOR | check | ring FLASH BANKS",
         ),
         Status::Read => Some("paygo: read fault"),
         Status::Write => Some("paygo: write fault"),

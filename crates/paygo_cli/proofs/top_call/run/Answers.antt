@@ -9,21 +9,21 @@ use Rattle.paygo_cli.proofs.top_call.run.Goals as goal
 pub returns-in-Some-Lines-clause-run : goal.returns-in-Some-Lines-clause-run
 returns-in-Some-Lines-clause-run g c = λ mode is.
     let old = outside (g.S.Source.view c.args.source.now) (g.K.Sink.view c.args.sink.now) (g.D.Keeper.view c.args.keeper.now) (g.F.Flash.view c.args.flash.now) in
-    let new = outside (g.S.Source.view c.run_lines.new.source) (g.K.Sink.view c.run_lines.new.sink) (g.D.Keeper.view c.run_lines.new.keeper) (g.F.Flash.view c.run_lines.new.flash) in
-    subst (λ (m : Mode). RunsTold g.M.Mixer.next m c.run_lines.result old new) (same_mode c.in-Some-Lines.field-0 c.in-Some-Lines.mode mode c.in-Some-Lines.field-0-is (c.in-Some-Lines.ensures.work ∙ is)) c.run_lines.ensures.run
+    let new = outside (g.S.Source.view c.run_bench.new.source) (g.K.Sink.view c.run_bench.new.sink) (g.D.Keeper.view c.run_bench.new.keeper) (g.F.Flash.view c.run_bench.new.flash) in
+    subst (λ (m : Mode). RunsTold g.M.Mixer.next m c.run_bench.result old new) (same_mode c.in-Some-Lines.field-0 c.in-Some-Lines.mode mode c.in-Some-Lines.field-0-is (c.in-Some-Lines.ensures.work ∙ is)) c.run_bench.ensures.run
 
 pub returns-in-Some-Lines-clause-unseen : goal.returns-in-Some-Lines-clause-unseen
 returns-in-Some-Lines-clause-unseen g c = λ mode is.
     let old = outside (g.S.Source.view c.args.source.now) (g.K.Sink.view c.args.sink.now) (g.D.Keeper.view c.args.keeper.now) (g.F.Flash.view c.args.flash.now) in
-    let new = outside (g.S.Source.view c.run_lines.new.source) (g.K.Sink.view c.run_lines.new.sink) (g.D.Keeper.view c.run_lines.new.keeper) (g.F.Flash.view c.run_lines.new.flash) in
-    subst (λ (m : Mode). RunsUnseen g.M.Mixer.next m c.run_lines.result old new) (same_mode c.in-Some-Lines.field-0 c.in-Some-Lines.mode mode c.in-Some-Lines.field-0-is (c.in-Some-Lines.ensures.work ∙ is)) c.run_lines.ensures.unseen
+    let new = outside (g.S.Source.view c.run_bench.new.source) (g.K.Sink.view c.run_bench.new.sink) (g.D.Keeper.view c.run_bench.new.keeper) (g.F.Flash.view c.run_bench.new.flash) in
+    subst (λ (m : Mode). RunsUnseen g.M.Mixer.next m c.run_bench.result old new) (same_mode c.in-Some-Lines.field-0 c.in-Some-Lines.mode mode c.in-Some-Lines.field-0-is (c.in-Some-Lines.ensures.work ∙ is)) c.run_bench.ensures.unseen
 
 pub returns-in-Some-Lines-clause-deal : goal.returns-in-Some-Lines-clause-deal
 returns-in-Some-Lines-clause-deal g c = λ mode is.
     let old = outside (g.S.Source.view c.args.source.now) (g.K.Sink.view c.args.sink.now) (g.D.Keeper.view c.args.keeper.now) (g.F.Flash.view c.args.flash.now) in
-    let new = outside (g.S.Source.view c.run_lines.new.source) (g.K.Sink.view c.run_lines.new.sink) (g.D.Keeper.view c.run_lines.new.keeper) (g.F.Flash.view c.run_lines.new.flash) in
-    let told = subst (λ (m : Mode). RunsTold g.M.Mixer.next m c.run_lines.result old new) (same_mode c.in-Some-Lines.field-0 c.in-Some-Lines.mode mode c.in-Some-Lines.field-0-is (c.in-Some-Lines.ensures.work ∙ is)) c.run_lines.ensures.run in
-    runs_on g.M.Mixer.next mode c.run_lines.result old new told
+    let new = outside (g.S.Source.view c.run_bench.new.source) (g.K.Sink.view c.run_bench.new.sink) (g.D.Keeper.view c.run_bench.new.keeper) (g.F.Flash.view c.run_bench.new.flash) in
+    let told = subst (λ (m : Mode). RunsTold g.M.Mixer.next m c.run_bench.result old new) (same_mode c.in-Some-Lines.field-0 c.in-Some-Lines.mode mode c.in-Some-Lines.field-0-is (c.in-Some-Lines.ensures.work ∙ is)) c.run_bench.ensures.run in
+    runs_on g.M.Mixer.next mode c.run_bench.result old new told
 
 pub returns-in-Some-Audit-clause-complete : goal.returns-in-Some-Audit-clause-complete
 returns-in-Some-Audit-clause-complete g c =
