@@ -1,3 +1,4 @@
+pub mod Longs
 pub mod Looping
 pub mod Promising
 pub mod Sides

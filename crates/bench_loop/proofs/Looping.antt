@@ -50,6 +50,10 @@ pub record Ended (acts : Event → Option Reply → State → State → Type 0) 
   pub written : WritesBy result first.sink.written answers new.sink
   pub is_at : IsAt stands mode new world
 
+-- a bench has no last word, and leaves all as it is behind the last line
+abbrev pub says_nothing : Side → Result (Unit {0}) WriteFault → SinkView → SinkView → Type 0
+says_nothing side outcome old new = (outcome ≡ Ok tt) × (new ≡ old)
+
 module _ (acts : Event → Option Reply → State → State → Type 0) (stands : Device → FlashView → State → Type 0)
     (calls : State → Event → Option ℕ) (next : List ℕ → ℕ → ℕ)
     (by : (mode : Mode) (steps : List Step) (result : Result (Unit {0}) LineFault) (old new : BenchDesk)
@@ -191,10 +195,6 @@ module _ (acts : Event → Option Reply → State → State → Type 0) (stands 
           written = refused.written ∙ done.written;
           is_at = refused.is_at;
         }
-
-  -- a bench has no last word, and leaves all as it is behind the last line
-  abbrev pub says_nothing : Side → Result (Unit {0}) WriteFault → SinkView → SinkView → Type 0
-  says_nothing side outcome old new = (outcome ≡ Ok tt) × (new ≡ old)
 
   concluded : (taken : List ℕ) (first new : Desk Side) → Concludes (DidLine next) says_nothing (Ok tt) taken first new → Handled (DidLine next) (all_lines taken) first new
   concluded taken first new concludes =
