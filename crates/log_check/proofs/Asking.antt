@@ -26,7 +26,7 @@ use Rattle.run_spec.specs.declared.Mode.TheVariants as mode
 use Rattle.run_spec.specs.DeviceLines.{divider_in, field, form_in, config_in, is_key_text, are_key_text, presses, one, word_in, make_in, tick_in, pressed_in, keys_in, events_in}
 use Rattle.run_spec.specs.Meaning.{trimmed, step_of_reading, steps_of_device, steps_of_ledger, steps_of_text, steps_of_line}
 use Rattle.run_spec.specs.Run.{Say, Act}
-use Rattle.log_check.proofs.Fitting.{AreSteps}
+use Rattle.log_check.proofs.Steps.{AreSteps}
 
 some_if : {A B : Type 0} (P : A → Type 0) (Q : B → Type 0) (f : A → Option B) (o : Option A) → IfSome o P
     → ((a : A) → P a → IfSome (f a) Q) → IfSome (option_and_then f o) Q

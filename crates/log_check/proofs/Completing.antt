@@ -22,7 +22,8 @@ use Rattle.log_check.specs.Waiting.{IsSettled}
 use Rattle.log_check.proofs.Alike.{heads, tails, same_text_on, has_reply_on}
 use Rattle.log_check.proofs.Choices.{after_may, may_after}
 use Rattle.log_check.proofs.Members.{none_in, in_one, first_in}
-use Rattle.log_check.proofs.Fitting.{AllReal, in_going, going_in, says_is}
+use Rattle.log_check.proofs.Fitting.{AllReal, in_going, going_in}
+use Rattle.log_check.proofs.Steps.{says_is}
 use Rattle.log_check.proofs.Replying.{on_after, acts_answering}
 use Rattle.log_check.proofs.Totals.{Some_in}
 

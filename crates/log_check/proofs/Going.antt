@@ -1,9 +1,8 @@
 -- What the check keeps of the states goes on by an event as the states do.
-use Rattle.std.proofs.Common.{◌≡◌, ℕ, Bool, true, false, not, ◌==◌, ◌&&◌, List, [], ◌∷◌, map, Option, Some, None, refl, sym, ap, subst, ◌∙◌, ⊎_elim}
+use Rattle.std.proofs.Common.{◌≡◌, ℕ, Bool, true, false, not, ◌==◌, ◌&&◌, List, [], ◌∷◌, map, Option, Some, refl, sym, ap, ◌∙◌, ⊎_elim}
 use Rattle.std.specs.Prelude.{codes, is_none, if◌then◌else◌}
-use Rattle.std.specs.List.{filter, flat_map}
-use Rattle.std.specs.Str.{bytes_eq}
-use Rattle.std.proofs.lemmas.Bool.{cases_Bool, and_parts}
+use Rattle.std.specs.List.{flat_map}
+use Rattle.std.proofs.lemmas.Bool.{cases_Bool}
 use Rattle.std.proofs.lemmas.Slice.Eq.{bytes_eq-Decides}
 use Rattle.paygo_spec.specs.declared.Event.{Event}
 use Rattle.paygo_spec.specs.declared.Event.TheVariants.{Power, Make, Key, Tick, Show, Raise}
@@ -16,8 +15,8 @@ use Rattle.paygo_spec.specs.Text.{text_of}
 use Rattle.log_check.specs.After.{Outcome, choice_of, state_by, powering, outcomes, after}
 use Rattle.log_check.specs.Fits.{says, has_reply, is_silent, going_on}
 use Rattle.log_check.specs.Keeping.{put_storeds, is_made, first_of, first_is_made, AllMade, AreAlike, state_as, states_as, outcomes_at, told_by, told_from, is_cut}
-use Rattle.log_check.proofs.Alike.{down_text, Either, either}
-use Rattle.log_check.proofs.Fitting.{says_is}
+use Rattle.log_check.proofs.Alike.{down_text, either}
+use Rattle.log_check.proofs.Steps.{says_is}
 use Rattle.log_check.proofs.Gathering.{passing, Each, goes_as}
 use Rattle.log_check.proofs.MadeKinds.{Like}
 use Rattle.log_check.proofs.Replying.{on_after}

@@ -5,6 +5,7 @@ pub mod Choices
 pub mod Puts
 pub mod Replying
 pub mod Alike
+pub mod Steps
 pub mod Fitting
 pub mod Asking
 pub mod Totals

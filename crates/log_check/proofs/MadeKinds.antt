@@ -1,7 +1,7 @@
 -- Where devices are on, a device was made on the flash of each or of none: replies with one text say which.
-use Rattle.std.proofs.Common.{◌≡◌, ◌≢◌, ℕ, Bool, true, false, not, ◌==◌, List, [], ◌∷◌, ◌++◌, map, get_or, Option, Some, None, refl, sym, ap, subst, ◌∙◌, ⊎_elim, arith}
+use Rattle.std.proofs.Common.{◌≡◌, ℕ, Bool, true, false, not, ◌==◌, List, [], ◌∷◌, ◌++◌, map, get_or, Some, refl, sym, ap, subst, ◌∙◌, ⊎_elim, arith}
 use Rattle.std.specs.Prelude.{codes}
-use Rattle.std.specs.List.{flat_map, list_any}
+use Rattle.std.specs.List.{list_any}
 use Rattle.std.specs.Str.{bytes_eq}
 use Rattle.std.proofs.lemmas.Bool.{cases_Bool}
 use Rattle.std.proofs.lemmas.Bool.Decides.{nat_tests}
@@ -9,20 +9,18 @@ use Rattle.std.proofs.lemmas.Slice.Eq.{bytes_eq-Decides}
 use Rattle.paygo_spec.specs.declared.Event.{Event}
 use Rattle.paygo_spec.specs.declared.Event.TheVariants.{Power, Make, Key, Tick, Show, Raise}
 use Rattle.paygo_spec.specs.declared.Entry.{Entry}
-use Rattle.paygo_spec.specs.declared.Entry.TheVariants.{Raised}
-use Rattle.paygo_spec.specs.declared.Reply.{Reply}
 use Rattle.paygo_spec.specs.declared.Reply.TheVariants as reply_is
-use Rattle.paygo_spec.specs.Layout.{Position, last_bank, room, further, turned}
-use Rattle.paygo_spec.specs.Machine.{Stored, History, Effect, Answers, Adds, Raises, clock_at, reply_to_entry, reply_to_power, effect_of}
+use Rattle.paygo_spec.specs.Layout.{Position, last_bank, room}
+use Rattle.paygo_spec.specs.Machine.{Stored, History, Effect, Answers, Adds, Raises, clock_at, effect_of}
 use Rattle.paygo_spec.specs.Pad.{Keys}
 use Rattle.paygo_spec.specs.Text.{text_of}
 use Rattle.log_check.specs.declared.standing.Standing.{Standing}
 use Rattle.log_check.specs.declared.standing.Standing.TheVariants.{Blank, Made}
-use Rattle.log_check.specs.After.{Outcome, with_reply, taken, moved, left_at, adding, raising, by_effect}
+use Rattle.log_check.specs.After.{Outcome, with_reply, moved, left_at, adding, raising, by_effect}
 use Rattle.log_check.specs.Fits.{says}
 use Rattle.log_check.specs.Same.{same_stored}
 use Rattle.log_check.specs.Standing.{stored_of, history_of}
-use Rattle.log_check.specs.Keeping.{storeds_of, put_stored, put_storeds, is_made, first_is_made, AllMade, AreAlike, outcomes_at, told_by, told_from, is_cut}
+use Rattle.log_check.specs.Keeping.{storeds_of, put_stored, put_storeds, is_made, AllMade, AreAlike, outcomes_at, told_by, told_from, is_cut}
 use Rattle.log_check.proofs.Gathering.{Each}
 
 all_append : (made : Bool) (xs ys : List Stored) → AllMade made xs → AllMade made ys → AllMade made (xs ++ ys)

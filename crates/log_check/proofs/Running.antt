@@ -1,5 +1,5 @@
 -- A log of a run is one run over all steps that its lines ask for, whose answers have the texts that it tells.
-use Rattle.std.proofs.Common.{◌≡◌, ℕ, List, [], ◌∷◌, ◌++◌, map, append_assoc, append-nil, Option, Some, None, refl, sym, ap, subst, ◌∙◌}
+use Rattle.std.proofs.Common.{◌≡◌, ℕ, List, [], ◌∷◌, ◌++◌, map, append-nil, Option, Some, None, refl, sym, ap, subst, ◌∙◌}
 use Rattle.std.specs.List.{flat_map}
 use Rattle.std.proofs.lemmas.Grind.{flat_map-append}
 use Rattle.paygo_spec.specs.Machine.{Blank}
@@ -10,7 +10,7 @@ use Rattle.run_spec.specs.declared.Mode.TheVariants as mode
 use Rattle.run_spec.specs.Meaning.{steps_of_line}
 use Rattle.run_spec.specs.Run.{Step, Answer, Said, Did, Told as ToldOf, World, Run, beginning}
 use Rattle.run_spec.specs.Text.{line_of, text}
-use Rattle.log_check.specs.Fits.{Marked, Typed, Told}
+use Rattle.log_check.specs.Fits.{Marked, Told}
 use Rattle.log_check.specs.Logs.{texts_of, texts, Talk, log_of, RunOver, IsLog, asked_in, told_in, ended, IsRun}
 use Rattle.log_check.proofs.Sounding.{run_append}
 

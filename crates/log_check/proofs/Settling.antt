@@ -1,5 +1,5 @@
 -- The steps that wait, and how the first of them are taken.
-use Rattle.std.proofs.Common.{◌≡◌, ◌≢◌, ℕ, zero, suc, ◌+◌, ◌<◌, ◌≤◌, Bool, true, false, cond, List, [], ◌∷◌, ◌++◌, length, map, take, drop, get_or, add-one, ⊎_elim, refl, sym, ap, subst, ◌∙◌, arith}
+use Rattle.std.proofs.Common.{◌≡◌, ◌≢◌, ℕ, zero, suc, ◌+◌, ◌<◌, ◌≤◌, true, false, cond, List, [], ◌∷◌, ◌++◌, length, map, take, drop, get_or, add-one, ⊎_elim, refl, sym, ap, subst, ◌∙◌, arith}
 use Rattle.std.specs.Prelude.{is_none, nat_lt}
 use Rattle.std.proofs.lemmas.Bool.{cases_Bool}
 use Rattle.std.proofs.lemmas.Bool.Decides.{nat_tests}
@@ -12,7 +12,7 @@ use Rattle.paygo_spec.specs.Words.{is_space}
 use Rattle.ledger_spec.specs.Tables.{Tables}
 use Rattle.run_spec.specs.declared.Mode.TheVariants as mode
 use Rattle.run_spec.specs.DeviceLines.{presses}
-use Rattle.run_spec.specs.Run.{Step, Say, Do, Act}
+use Rattle.run_spec.specs.Run.{Step, Say, Act}
 use Rattle.log_check.specs.declared.states.States.{States}
 use Rattle.log_check.specs.Fits.{Typed, Told, Unmarked, Fit, fit, is_silent, going_on, settled}
 use Rattle.log_check.specs.Kept.{AreStates}

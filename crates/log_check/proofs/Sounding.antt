@@ -19,7 +19,8 @@ use Rattle.log_check.specs.Fits.{Marked, Typed, Told, Unmarked, Fit, fit, first_
 use Rattle.log_check.specs.Logs.{texts_of, texts, Talk, log_of, RunOver, IsLog, BeginsLog}
 use Rattle.log_check.proofs.Choices.{after_may}
 use Rattle.log_check.proofs.Members.{none_in, in_one}
-use Rattle.log_check.proofs.Fitting.{AreSteps, in_going, none_is, says_is, if_in_text}
+use Rattle.log_check.proofs.Fitting.{in_going}
+use Rattle.log_check.proofs.Steps.{AreSteps, none_is, says_is, if_in_text}
 use Rattle.log_check.proofs.Totals.{steps_go}
 use Rattle.log_check.proofs.Asking.{lines_good}
 

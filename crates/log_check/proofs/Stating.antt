@@ -1,12 +1,10 @@
 -- What the check keeps of the states goes on as the states do.
-use Rattle.std.proofs.Common.{◌≡◌, ℕ, suc, Bool, true, false, not, List, [], ◌∷◌, length, map, Option, refl, sym, ap, subst, ◌∙◌}
-use Rattle.std.specs.Prelude.{is_none, if◌then◌else◌}
+use Rattle.std.proofs.Common.{◌≡◌, ℕ, suc, Bool, true, false, not, List, [], ◌∷◌, length, map, refl, sym, ap, subst, ◌∙◌}
+use Rattle.std.specs.Prelude.{is_none}
 use Rattle.paygo_spec.specs.declared.Event.{Event}
-use Rattle.paygo_spec.specs.declared.Event.TheVariants.{Power, Make, Key, Tick, Show, Raise}
 use Rattle.paygo_spec.specs.Faults.{raised}
 use Rattle.paygo_spec.specs.Machine.{State, Stored, Blank, starting, keys_after}
 use Rattle.paygo_spec.specs.Pad.{Keys, kept_of, no_keys}
-use Rattle.log_check.specs.declared.standing.Standing.{Standing}
 use Rattle.log_check.specs.declared.standing.Standing.TheVariants as standing_is
 use Rattle.log_check.specs.declared.states.States.{States}
 use Rattle.log_check.specs.Fits.{says, is_silent, going_on}
@@ -121,7 +119,8 @@ module _ (next : List ℕ → ℕ → ℕ) (kept : States) (event : Event) (stat
           }
 
     -- a device that is off stays as it is
-    pub passed_off : is_silent event states ≡ true → kept.on ≡ false → AreStates kept (going_on next is_none event states)
+    pub passed_off : is_silent event states ≡ true → kept.on ≡ false
+        → AreStates kept (going_on next is_none event states)
     passed_off silent off =
         let as_off : states ≡ states_as false are.keys are.faults storeds = are.states_are
         ∙ ap (λ (o : Bool). states_as o are.keys are.faults storeds) off in
@@ -153,7 +152,8 @@ module _ (next : List ℕ → ℕ → ℕ) (kept : States) (event : Event) (stat
           pad = pad are.keys are.pad;
           states_are =
               ap (going_on next is_none event) as_on
-              ∙ on_going next are.keys are.faults event storeds (ap (is_silent event) (sym as_on) ∙ silent) (are.alike on)
+              ∙ on_going next are.keys are.faults event storeds (ap (is_silent event) (sym as_on) ∙ silent)
+              (are.alike on)
               are.once
               ∙ ap (states_as true keys are.faults) (sym list)
               ∙ ap (λ (o : Bool). states_as o keys are.faults (storeds_of new.standings.items)) (sym still);

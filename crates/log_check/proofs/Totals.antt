@@ -16,7 +16,7 @@ use Rattle.run_spec.specs.Run.{Step, Say, Do, Act, Answer, Said, Did, Told as To
 use Rattle.log_check.specs.After.{with_reply, by_effect, outcomes, choice_of, summed_state, after_if, after}
 use Rattle.log_check.proofs.Choices.{after_may}
 use Rattle.log_check.proofs.Members.{first_in, map_in}
-use Rattle.log_check.proofs.Fitting.{IsStep, AreSteps}
+use Rattle.log_check.proofs.Steps.{IsStep, AreSteps}
 
 -- A list has an element.
 abbrev pub Some_in : {A : Type 0} → List A → Type 0

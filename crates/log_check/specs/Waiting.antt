@@ -11,7 +11,7 @@ use Rattle.log_check.specs.declared.waiting.Waiting.{Waiting}
 use Rattle.log_check.specs.declared.waiting.Waiting.TheVariants.{Unread, Fault, Command, Events}
 use Rattle.log_check.specs.declared.waiting.First.{First}
 use Rattle.log_check.specs.declared.waiting.First.TheVariants as first
-use Rattle.log_check.specs.Fits.{Fit, is_silent, settled}
+use Rattle.log_check.specs.Fits.{is_silent, settled}
 use Rattle.log_check.specs.Kept.{AreStates}
 
 -- Each of these may be asked for.

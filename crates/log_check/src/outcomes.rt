@@ -219,8 +219,8 @@ fn powering(alloc: Global, standing: &Standing) -> Result<Vec<Foreseen>, Memory>
     listed(alloc, &[up, down])
 }
 
-/// What a device that is on may answer to an event, or one that is off to `Power`, and what its flash stands for then: at
-/// most five pairs, the one without a power cut first. It takes memory.
+/// What a device that is on may answer to an event, or one that is off to `Power`, and what its flash stands for then:
+/// at most five pairs, the one without a power cut first. It takes memory.
 ///
 /// The caller sees to it that what the flash stands for is in range, and that the event may be asked for.
 ///

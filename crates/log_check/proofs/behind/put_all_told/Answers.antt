@@ -1,4 +1,4 @@
-use Rattle.std.proofs.Common.{length, sym, subst}
+use Rattle.std.proofs.Common.{sym, subst}
 use Rattle.log_check.specs.declared.outcomes.Foreseen.{Foreseen}
 use Rattle.log_check.specs.Keeping.{storeds_of}
 use Rattle.log_check.specs.Standing.{IsStanding}

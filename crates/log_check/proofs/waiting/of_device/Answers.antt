@@ -1,7 +1,7 @@
-use Rattle.std.proofs.Common.{◌≡◌, ◌∷◌, [], List, sym, subst, ◌∙◌, ap, map, rules}
+use Rattle.std.proofs.Common.{◌≡◌, List, sym, subst}
 use Rattle.std.specs.Prelude.{IfOk}
 use Rattle.run_spec.specs.declared.Mode.TheVariants as mode
-use Rattle.run_spec.specs.Run.{Step, Act}
+use Rattle.run_spec.specs.Run.{Step}
 use Rattle.bench_run.proofs.Answering.{steps_asked, steps_unread}
 use Rattle.log_check.specs.Waiting.{steps_of}
 use Rattle.log_check.proofs.Settling.{both_takes_device}

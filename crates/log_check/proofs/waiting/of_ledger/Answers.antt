@@ -1,4 +1,4 @@
-use Rattle.std.proofs.Common.{◌≡◌, ◌≢◌, Ok, Err, sym, rules}
+use Rattle.std.proofs.Common.{◌≢◌, Ok, Err, sym, rules}
 use Rattle.ledger_spec.specs.declared.TextFault.TheVariants as text_fault
 use Rattle.run_spec.specs.declared.Mode.TheVariants as mode
 use Rattle.bench_run.proofs.Answering.{steps_read, read_ok, read_fault}

@@ -1,4 +1,4 @@
-use Rattle.std.proofs.Common.{List, [], ◌∷◌, sym, subst}
+use Rattle.std.proofs.Common.{[], ◌∷◌, sym, subst}
 use Rattle.std.specs.Prelude.{codes}
 use Rattle.run_spec.specs.Run.{Say}
 use Rattle.log_check.specs.declared.waiting.Waiting.{Waiting}

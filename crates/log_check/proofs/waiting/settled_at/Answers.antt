@@ -1,4 +1,4 @@
-use Rattle.std.proofs.Common.{◌≡◌, ℕ, ◌+◌, true, false, List, sym, ◌∙◌}
+use Rattle.std.proofs.Common.{◌+◌, sym, ◌∙◌}
 use Rattle.paygo_spec.specs.declared.Event.TheVariants.{Power}
 use Rattle.log_check.specs.Waiting.{acts_from}
 use Rattle.log_check.proofs.Settling.{acts_at, acts_end, event_at, none_taken, one_taken, stops, is_done}

@@ -1,4 +1,4 @@
-use Rattle.std.proofs.Common.{◌≡◌, ℕ, length, ◌-◌, List}
+use Rattle.std.proofs.Common.{ℕ, length, ◌-◌, List}
 use Rattle.paygo_spec.specs.Machine.{State}
 use Rattle.ledger_spec.specs.Tables.{Tables}
 use Rattle.log_check.specs.Kept.{AreStates}
