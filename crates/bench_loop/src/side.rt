@@ -63,8 +63,7 @@ impl<M: Mixer> LineHandler for Side<M> {
         flash: &mut F,
         sink: &mut K,
     ) -> Result<(), LineFault> {
-        self.bench
-            .line(alloc, self.mode, line, keeper, flash, sink)
+        self.bench.line(alloc, self.mode, line, keeper, flash, sink)
     }
 
     fn long<K: Sink>(&mut self, size: u64, sink: &mut K) -> Result<(), WriteFault> {

@@ -1,5 +1,5 @@
 -- A whole run: what stays true from turn to turn, and what follows at its end.
-use Rattle.std.proofs.Common.{◌≡◌, ◌≢◌, ◌⊎◌, inl, inr, ℕ, ◌+◌, ◌-◌, ◌^◌, ◌<◌, ◌≤◌, Bool, true, false, List, [], ◌∷◌, ◌++◌, length, Option, Some, None, Result, refl, sym, ap, ◌∙◌, arith, append_assoc, append-nil, length-append, subst}
+use Rattle.std.proofs.Common.{◌≡◌, ◌≢◌, ◌⊎◌, inl, inr, ℕ, ◌+◌, ◌-◌, ◌^◌, ◌<◌, ◌≤◌, Bool, true, false, List, [], ◌∷◌, ◌++◌, length, Some, None, Result, refl, sym, ap, ◌∙◌, arith, append_assoc, append-nil, length-append, subst}
 use Rattle.std.proofs.lemmas.Bool.{cases_eq}
 use Rattle.std.specs.Io.KnownBytes.{prepend_known, IsAtEnd}
 use Rattle.paygo_spec.specs.Streams.{SourceView, SinkView}
@@ -12,7 +12,7 @@ use Rattle.line_loop.specs.Outside.{Outside, outside, Causes, IsLong, Reads}
 use Rattle.line_loop.specs.Reader.{LinesView, Came, IsLine}
 use Rattle.line_loop.specs.Turn.{Parts, Turns, Turned}
 use Rattle.line_loop.proofs.Gathering.{nothing-more, prepend-append}
-use Rattle.line_loop.proofs.Looping.{SoFar, Ended, went_on, run_ends}
+use Rattle.line_loop.proofs.Looping.{SoFar, went_on, run_ends}
 use Rattle.line_loop.proofs.Turning.{calm, causes_then}
 
 -- what is seen of the outside

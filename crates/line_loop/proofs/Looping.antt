@@ -1,5 +1,5 @@
 -- A whole run over lines, turn by turn: where it is in the bytes, and what it did up to there.
-use Rattle.std.proofs.Common.{◌≡◌, ◌≢◌, ◌⊎◌, inl, inr, ℕ, suc, ◌<◌, ◌==◌, Bool, true, false, List, [], ◌∷◌, ◌++◌, length, Option, Some, None, Result, Ok, Err, refl, sym, ap, ◌∙◌, append_assoc, append-nil, subst, arith, if◌then◌else◌}
+use Rattle.std.proofs.Common.{◌≡◌, ◌≢◌, ◌⊎◌, inl, inr, ℕ, suc, ◌<◌, ◌==◌, Bool, true, false, List, [], ◌∷◌, ◌++◌, length, Some, Result, Ok, Err, refl, sym, ap, ◌∙◌, append_assoc, append-nil, subst, arith, if◌then◌else◌}
 use Rattle.std.proofs.lemmas.List.{nil_from_length}
 use Rattle.paygo_spec.specs.Streams.{SinkView}
 use Rattle.run_spec.specs.declared.Status.{Status}
@@ -11,7 +11,7 @@ use Rattle.line_loop.specs.declared.handler.LineFault.{LineFault}
 use Rattle.line_loop.specs.declared.handler.LineFault.TheVariants as fault
 use Rattle.line_loop.specs.Handling.{Desk, Handled, FailsAt, Concludes, EndsWith}
 use Rattle.line_loop.specs.Reader.{LinesView, Came, IsLine}
-use Rattle.line_loop.specs.Turn.{Parts, TakesLine, TakesEnd, TakesNone, Turns}
+use Rattle.line_loop.specs.Turn.{Parts, TakesEnd, TakesNone, Turns}
 use Rattle.line_loop.proofs.Cuts.{lines-append, rest-append, rest_whole, line-append, rest-line}
 
 -- behind the end of a line the lines begin anew
@@ -115,7 +115,7 @@ module _ (lines : List (List ℕ)) (gone line bytes : List ℕ) (new : LinesView
         place = inl (
           rest_behind gone (line ++ 10 ∷ []) end ∙ rest-line line [],
           ap (λ ls. ls ++ line ∷ []) is
-          ∙ sym (lines_behind gone (line ++ 10 ∷ []) end ∙ ap (λ ls. whole_lines gone ++ ls) whole),
+              ∙ sym (lines_behind gone (line ++ 10 ∷ []) end ∙ ap (λ ls. whole_lines gone ++ ls) whole),
         );
         among = λ ended told. all_with_end e ended;
       }

@@ -1,5 +1,5 @@
 -- A turn: a line was taken and handled, or the last word was said.
-use Rattle.std.proofs.Common.{◌≡◌, ℕ, ◌<◌, ◌≤◌, Bool, true, false, inl, inr, List, [], ◌++◌, length, take, Ok, Err, Result, Option, Some, None, refl, ap, ◌∙◌, subst, arith}
+use Rattle.std.proofs.Common.{◌≡◌, ℕ, ◌<◌, ◌≤◌, Bool, true, false, inl, inr, List, ◌++◌, length, take, Ok, Err, Result, Option, Some, None, refl, ap, ◌∙◌, subst, arith}
 use Rattle.std.proofs.lemmas.List.{length-take}
 use Rattle.paygo_spec.specs.Faults.{Rose, Counted}
 use Rattle.paygo_spec.specs.Flash.{FlashView, KeepsPlan}

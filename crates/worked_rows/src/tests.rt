@@ -2,6 +2,7 @@
 // 123456789, whole days and nine digits unless a row says otherwise, and the counts of its chain are 7,000 apart.
 mod audits;
 mod bench;
+mod check;
 mod cuts;
 mod fleets;
 mod images;

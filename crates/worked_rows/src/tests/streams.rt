@@ -40,7 +40,7 @@ fn faults_of_the_streams_end_a_run(rt: HostRuntime) -> Result<(), Memory> {
 fn words_of_the_command_line(rt: HostRuntime) -> Result<(), Memory> {
     // a source whose first read fails shows whether it is read
     let fails = Plan { read: 1, ..CALM };
-    let rows: [(&[&str], &str, Plan, Status); 24] = [
+    let rows: [(&[&str], &str, Plan, Status); 26] = [
         (&["serve"], "power\n", fails, Status::Usage),
         (&["serve", ""], "power\n", fails, Status::Usage),
         (&["serve", "D", "F"], "power\n", fails, Status::Usage),
@@ -50,6 +50,8 @@ fn words_of_the_command_line(rt: HostRuntime) -> Result<(), Memory> {
         (&["bench", "D", "F"], "power\n", fails, Status::Read),
         (&[], "power\n", fails, Status::Usage),
         (&["audit"], "power\n", fails, Status::Usage),
+        (&["check"], "power\n", fails, Status::Read),
+        (&["check", "D"], "power\n", fails, Status::Usage),
         (&["audit", ""], "power\n", fails, Status::Usage),
         (&["audit", "D", "F"], "power\n", fails, Status::Usage),
         (&["fleet", "1", "0", "5"], "power\n", fails, Status::Usage),

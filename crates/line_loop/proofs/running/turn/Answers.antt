@@ -1,10 +1,10 @@
-use Rattle.std.proofs.Common.{List, Ok, refl, subst, sym, take}
+use Rattle.std.proofs.Common.{Ok, refl, subst, take}
 use Rattle.line_loop.specs.declared.lines.Next.{Next}
 use Rattle.line_loop.specs.Handling.{desk, of_line}
 use Rattle.line_loop.specs.Outside.{outside}
 use Rattle.line_loop.specs.Reader.{Hands}
 use Rattle.line_loop.specs.Turn.{parts}
-use Rattle.line_loop.proofs.Turning.{took, ended, front_short, blamed, blamed_long, blamed_end}
+use Rattle.line_loop.proofs.Turning.{took, ended, blamed, blamed_long, blamed_end}
 use Rattle.line_loop.proofs.running.turn.Goals as goal
 
 pub returns-in-Ok-Line-clause-turned : goal.returns-in-Ok-Line-clause-turned
