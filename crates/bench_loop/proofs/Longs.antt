@@ -11,9 +11,9 @@ use Rattle.run_spec.specs.Meaning.{steps_of_line}
 use Rattle.run_spec.specs.Run.{Step, Say}
 use Rattle.device_core.specs.declared.device.Device.{Device}
 use Rattle.paygo_ports.specs.declared.sink.WriteFault.{WriteFault}
-use Rattle.line_loop.specs.Handling.{Desk, desk, of_line}
+use Rattle.line_loop.specs.Handling.{desk, of_line}
 use Rattle.bench_run.specs.Bench.{Works, Says, IsLedgerFault, desk as bench_desk}
-use Rattle.bench_loop.specs.Side.{Side, DidLine}
+use Rattle.bench_loop.specs.Side.{DidLine}
 
 -- it is none of the ledger
 no_ledger_fault : (outcome : Result (Unit {0}) WriteFault) → IsLedgerFault (of_line outcome) → ⊥

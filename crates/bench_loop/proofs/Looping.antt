@@ -1,5 +1,5 @@
 -- A whole run of a bench: the steps of all lines that were handled, and what became of the line that failed.
-use Rattle.std.proofs.Common.{◌≡◌, ◌≢◌, ◌⊎◌, inl, inr, ℕ, Bool, true, List, [], ◌∷◌, ◌++◌, Option, Some, Result, Ok, Err, refl, sym, ap, ◌∙◌, append_assoc, append-nil, subst}
+use Rattle.std.proofs.Common.{◌≡◌, ◌≢◌, inl, inr, ℕ, List, [], ◌∷◌, ◌++◌, Option, Some, Result, Ok, Err, refl, sym, ap, ◌∙◌, append-nil, subst}
 use Rattle.paygo_spec.specs.declared.Event.{Event}
 use Rattle.paygo_spec.specs.declared.Reply.{Reply}
 use Rattle.paygo_spec.specs.Flash.{FlashView}
@@ -11,7 +11,7 @@ use Rattle.run_spec.specs.declared.Status.{Status}
 use Rattle.run_spec.specs.declared.Status.TheVariants as status
 use Rattle.run_spec.specs.Lines.{whole_lines, all_lines}
 use Rattle.run_spec.specs.Meaning.{steps_of_line, steps_of}
-use Rattle.run_spec.specs.Ran.{IsAmong, IsBefore, IsCut, EndsBy, WritesBy, SpendsBy}
+use Rattle.run_spec.specs.Ran.{IsBefore, IsCut, EndsBy, WritesBy, SpendsBy}
 use Rattle.run_spec.specs.Run.{Step, Answer, World, RunBy}
 use Rattle.run_spec.specs.Text.{text}
 use Rattle.device_core.specs.declared.device.Device.{Device}

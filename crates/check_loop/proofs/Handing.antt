@@ -1,7 +1,5 @@
 -- All lines of a log are handed to the check, one after another.
 use Rattle.std.proofs.Common.{◌≡◌, ◌≢◌, ◌⊎◌, inl, inr, ℕ, ◌<◌, Bool, true, false, List, [], ◌∷◌, ◌++◌, length, take, map, Option, Some, None, Result, Ok, Err, refl, sym, ap, ◌∙◌, subst, arith, append-nil}
-use Rattle.std.specs.Prelude.{nat_lt}
-use Rattle.std.proofs.lemmas.Bool.Decides.{nat_tests}
 use Rattle.paygo_spec.specs.Streams.{SourceView, SinkView}
 use Rattle.run_spec.specs.declared.Status.{Status}
 use Rattle.run_spec.specs.declared.Status.TheVariants as status
@@ -19,10 +17,6 @@ use Rattle.log_check.specs.Verdicts.{verdict_on}
 use Rattle.log_check.proofs.Stepping.{check_judges}
 use Rattle.check_loop.specs.Handed.{HandedOn, HoldsBehind, line_of_log, line_of_verdict}
 use Rattle.check_loop.specs.Logs.{ChecksLog, WritesVerdict, verdict_text}
-
--- a line above 4,096 bytes has no mark
-pub long_line : (line : List ℕ) (size : ℕ) → length line ≡ size → 4096 < size → nat_lt 4096 (length line) ≡ true
-long_line line size is long = grind (arith, nat_tests)
 
 module _ {H : Type 0} (next : List ℕ → ℕ → ℕ) (progress : H → Progress) where
   -- what becomes of a line
@@ -59,9 +53,10 @@ module _ {H : Type 0} (next : List ℕ → ℕ → ℕ) (progress : H → Progre
       → (new.sink.written ≡ first.sink.written)
       × HoldsBehind next fails.line (Err failed) (with_lines next checked (map line_of_log fails.earlier)) (progress new.handler)
   failed_line failed taken ended first new checked holds fails =
-      let so_far = all_handed fails.earlier first fails.mid checked holds fails.handled in
-      (ap (λ (k : SinkView). k.written) (fails.fails.sink_is ∙ so_far.sink_is),
-      fails.fails.handed (with_lines next checked (map line_of_log fails.earlier)) so_far.holds)
+      let so_far = all_handed fails.earlier first fails.mid checked holds fails.handled in (
+        ap (λ (k : SinkView). k.written) (fails.fails.sink_is ∙ so_far.sink_is),
+        fails.fails.handed (with_lines next checked (map line_of_log fails.earlier)) so_far.holds,
+      )
 
   -- what was written of the verdict
   module _ (taken : List ℕ) (first new : Desk H) (holds : Holds (progress first.handler) first_checked)

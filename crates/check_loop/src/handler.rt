@@ -85,18 +85,16 @@ impl<M: Mixer> LineHandler for LogLines<M> {
 
     fn line<K: Sink, D: Keeper, F: Flash>(
         &mut self,
-        alloc: Global,
+        _alloc: Global,
         line: &[u8],
-        keeper: &mut D,
-        flash: &mut F,
-        sink: &mut K,
+        _keeper: &mut D,
+        _flash: &mut F,
+        _sink: &mut K,
     ) -> Result<(), LineFault> {
-        let _ = (alloc, keeper, flash, sink);
         of_memory(self.check.line(line))
     }
 
-    fn long<K: Sink>(&mut self, size: u64, sink: &mut K) -> Result<(), WriteFault> {
-        let _ = (size, sink);
+    fn long<K: Sink>(&mut self, _size: u64, _sink: &mut K) -> Result<(), WriteFault> {
         self.check.long();
         Ok(())
     }
