@@ -1,5 +1,5 @@
 -- All lines of a log are handed to the check, one after another.
-use Rattle.std.proofs.Common.{◌≡◌, ◌≢◌, ◌⊎◌, inl, inr, ℕ, ◌<◌, Bool, true, false, List, [], ◌∷◌, ◌++◌, length, take, map, Option, Some, None, Result, Ok, Err, refl, sym, ap, ◌∙◌, subst, arith, append-nil}
+use Rattle.std.proofs.Common.{◌≡◌, ◌≢◌, inl, inr, ℕ, Bool, List, [], ◌∷◌, ◌++◌, map, Result, Ok, Err, refl, sym, ap, ◌∙◌, subst}
 use Rattle.paygo_spec.specs.Streams.{SourceView, SinkView}
 use Rattle.run_spec.specs.declared.Status.{Status}
 use Rattle.run_spec.specs.declared.Status.TheVariants as status
@@ -13,10 +13,9 @@ use Rattle.log_check.specs.declared.progress.Progress.{Progress}
 use Rattle.log_check.specs.Checking.{Checked, first_checked, with_line, with_lines, verdict_of}
 use Rattle.log_check.specs.declared.Verdict.{Verdict}
 use Rattle.log_check.specs.Holding.{Holds}
-use Rattle.log_check.specs.Verdicts.{verdict_on}
 use Rattle.log_check.proofs.Stepping.{check_judges}
-use Rattle.check_loop.specs.Handed.{HandedOn, HoldsBehind, line_of_log, line_of_verdict}
-use Rattle.check_loop.specs.Logs.{ChecksLog, WritesVerdict, verdict_text}
+use Rattle.check_loop.specs.Handed.{HandedOn, HoldsBehind}
+use Rattle.check_loop.specs.Logs.{ChecksLog, WritesVerdict, line_of_log, line_of_verdict, verdict_text}
 
 module _ {H : Type 0} (next : List ℕ → ℕ → ℕ) (progress : H → Progress) where
   -- what becomes of a line

@@ -1,33 +1,15 @@
--- What becomes of the lines of a log in a check, and what is written of its verdict.
-use Rattle.std.specs.Prelude.{◌≡◌, ℕ, nat_lt, List, length, codes, Result, Ok, Err, if◌then◌else◌}
+-- What becomes of the lines of a log in a check.
+use Rattle.std.specs.Prelude.{◌≡◌, ℕ, List, Result, Ok, Err}
 use Rattle.paygo_spec.specs.declared.Memory.{Memory}
 use Rattle.paygo_spec.specs.Flash.{FlashView}
 use Rattle.paygo_spec.specs.Streams.{SinkView}
-use Rattle.paygo_spec.specs.Text.{with_number}
 use Rattle.ledger_spec.specs.Keeper.{KeeperView}
 use Rattle.line_loop.specs.declared.handler.LineFault.{LineFault}
 use Rattle.line_loop.specs.declared.handler.LineFault.TheVariants as fault
-use Rattle.log_check.specs.declared.Verdict.{Verdict}
-use Rattle.log_check.specs.declared.Verdict.TheVariants as verdict
 use Rattle.log_check.specs.declared.progress.Progress.{Progress}
 use Rattle.log_check.specs.Checking.{Checked, with_line}
-use Rattle.log_check.specs.Fits.{Marked, Unmarked, marked}
 use Rattle.log_check.specs.Holding.{Holds}
-
--- A line of the input as one of the log: one above 4,096 bytes has no mark.
-abbrev pub line_of_log : List ℕ → Marked
-line_of_log line = if nat_lt 4096 (length line) then Unmarked else marked line
-
--- A word and a number.
-abbrev pub text_of_verdict : List ℕ → ℕ → List ℕ
-text_of_verdict word n = with_number word n
-
--- The line of a verdict, without its end.
-abbrev pub line_of_verdict : Verdict → List ℕ
-line_of_verdict (verdict.Yes lines) = text_of_verdict (codes "yes") lines
-line_of_verdict (verdict.No line) = text_of_verdict (codes "no") line
-line_of_verdict (verdict.Wide line) = text_of_verdict (codes "wide") line
-line_of_verdict (verdict.Unread line) = text_of_verdict (codes "unread") line
+use Rattle.check_loop.specs.Logs.{line_of_log}
 
 -- Want of memory as what came of a line.
 abbrev pub of_memory : Result (Unit {0}) Memory → Result (Unit {0}) LineFault

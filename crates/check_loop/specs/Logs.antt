@@ -1,11 +1,25 @@
--- What a run of `check` writes.
-use Rattle.std.specs.Prelude.{◌≡◌, ℕ, ◌<◌, true, List, [], ◌∷◌, ◌++◌, length, take, map}
+-- The lines of a log, and what a run of `check` writes.
+use Rattle.std.specs.Prelude.{◌≡◌, ℕ, ◌<◌, true, nat_lt, List, [], ◌∷◌, ◌++◌, length, take, map, codes, if◌then◌else◌}
 use Rattle.paygo_spec.specs.Streams.{SourceView, SinkView}
+use Rattle.paygo_spec.specs.Text.{with_number}
 use Rattle.run_spec.specs.declared.Status.{Status}
 use Rattle.run_spec.specs.declared.Status.TheVariants as status
 use Rattle.run_spec.specs.Lines.{all_lines}
+use Rattle.log_check.specs.declared.Verdict.{Verdict}
+use Rattle.log_check.specs.declared.Verdict.TheVariants as verdict
+use Rattle.log_check.specs.Fits.{Marked, Unmarked, marked}
 use Rattle.log_check.specs.Verdicts.{verdict_on}
-use Rattle.check_loop.specs.Handed.{line_of_log, line_of_verdict}
+
+-- A line of the input as one of the log: one above 4,096 bytes has no mark.
+abbrev pub line_of_log : List ℕ → Marked
+line_of_log line = if nat_lt 4096 (length line) then Unmarked else marked line
+
+-- The line of a verdict, without its end.
+abbrev pub line_of_verdict : Verdict → List ℕ
+line_of_verdict (verdict.Yes lines) = with_number (codes "yes") lines
+line_of_verdict (verdict.No line) = with_number (codes "no") line
+line_of_verdict (verdict.Wide line) = with_number (codes "wide") line
+line_of_verdict (verdict.Unread line) = with_number (codes "unread") line
 
 -- The text of the verdict on the lines of these bytes.
 abbrev pub verdict_text : (List ℕ → ℕ → ℕ) → List ℕ → List ℕ

@@ -1,9 +1,11 @@
 // A check that is handed the lines of a log, and what is written of its verdict.
 ghost use Rattle.std.specs.Prelude.{◌≡◌, ◌++◌, ◌∷◌, [], ◌≤◌, length};
+ghost use Rattle.paygo_spec.specs.Text.{with_number};
 ghost use Rattle.log_check.specs.Checking.{Checked, verdict_of};
 ghost use Rattle.log_check.specs.Holding.{Holds};
 ghost use Rattle.line_output.specs.Written.{Wrote};
-ghost use Rattle.check_loop.specs.Handed.{HandedOn, text_of_verdict, line_of_verdict};
+ghost use Rattle.check_loop.specs.Handed.{HandedOn, of_memory as fault_of_memory};
+ghost use Rattle.check_loop.specs.Logs.{line_of_verdict};
 
 use ledger_keeper::Keeper;
 use line_loop::{LineFault, LineHandler};
@@ -38,7 +40,7 @@ impl<M: Mixer> LogLines<M> {
 // A word and a number.
 fn numbered(word: &[u8], n: u64) -> Line
     requires { length word.now ≤ 10 }
-    ensures text { result ≡ text_of_verdict word.now n }
+    ensures text { result ≡ with_number word.now n }
     ensures len { length result ≤ 511 }
 {
     let mut line = Line::new();
@@ -62,7 +64,7 @@ pub(crate) fn verdict_line(verdict: Verdict) -> Line
 
 // Want of memory as what came of a line.
 fn of_memory(outcome: Result<(), Memory>) -> Result<(), LineFault>
-    ensures { result ≡ Rattle.check_loop.specs.Handed.of_memory outcome }
+    ensures { result ≡ fault_of_memory outcome }
 {
     match outcome {
         Ok(()) => Ok(()),

@@ -15,10 +15,10 @@ ghost use Rattle.paygo_cli.specs.Advised.{order_line, text_of_list, WritesAdvice
 
 use crate::words::Behind;
 use crate::writing::written;
-use line_output::write_line;
 use ledger_keeper::Keeper;
 use ledger_spec::{Answer, KeeperFault, Order, Row};
 use ledger_text::{answer_line, numbered};
+use line_output::write_line;
 use line_text::Line;
 use paygo_ports::{Sink, WriteFault};
 use paygo_spec::Form;

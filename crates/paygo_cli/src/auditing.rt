@@ -14,9 +14,9 @@ ghost use Rattle.line_loop.specs.Outside.{outside, Causes};
 ghost use Rattle.paygo_cli.specs.Ends.{WritesText, written_by};
 
 use crate::writing::written;
-use line_output::write_line;
 use ledger_keeper::Keeper;
 use ledger_spec::{LedgerFault, Name};
+use line_output::write_line;
 use line_text::Line;
 use loan_ledger::{Audit, audit};
 use paygo_ports::{Sink, WriteFault};

@@ -9,10 +9,10 @@ ghost use Rattle.line_loop.specs.Outside.{outside, Causes};
 ghost use Rattle.paygo_cli.specs.Ends.{IsFleet, WritesFleet, written_by};
 
 use crate::writing::written;
-use line_output::write_line;
 use fleet_script::generate;
 use fleet_sim::run_fleet;
 use fleet_spec::Totals;
+use line_output::write_line;
 use line_text::Line;
 use paygo_ports::Sink;
 use paygo_spec::Memory;
