@@ -1,5 +1,6 @@
 -- The id of a place is a name, and tells the sheet and the place.
-use Rattle.std.proofs.Common.{◌≡◌, ℕ, ◌+◌, ◌≤◌, Bool, true, ◌&&◌, List, [], ◌∷◌, length, take, drop, refl, ap, sym, ◌∙◌, arith, length-append}
+use Rattle.std.proofs.Common.{◌≡◌, ℕ, ◌+◌, ◌≤◌, Bool, true, ◌&&◌, List, [], ◌∷◌}
+use Rattle.std.proofs.Common.{length, take, drop, refl, ap, sym, ◌∙◌, arith, length-append}
 use Rattle.std.specs.Prelude.{if◌then◌else◌, IsSome, is_some, Some, None}
 use Rattle.std.specs.declared.option.Option.{Option}
 use Rattle.std.specs.List.{list_all}
@@ -35,8 +36,8 @@ id_is_name sheet place allowed short few =
     both _ _ (le-leb _ _ some) (both _ _ (le-leb _ _ fits) all)
 
 -- what is read of it is there
-pub id_is_there : (sheet : List ℕ) (place : ℕ) (bytes : List ℕ) (name : Option (List ℕ)) → list_all is_name_byte sheet ≡ true
-    → length sheet ≤ 30 → place ≤ 8 → bytes ≡ id_of sheet place → name ≡ name_in 32 bytes → IsSome name
+pub id_is_there : (sheet : List ℕ) (place : ℕ) (bytes : List ℕ) (name : Option (List ℕ))
+    → list_all is_name_byte sheet ≡ true → length sheet ≤ 30 → place ≤ 8 → bytes ≡ id_of sheet place → name ≡ name_in 32 bytes → IsSome name
 id_is_there sheet place bytes name allowed short few text is =
     ap is_some is ∙ ap (λ b. is_some (name_in 32 b)) text
     ∙ ap (λ b. is_some (if b then Some (id_of sheet place) else None)) (id_is_name sheet place allowed short few)

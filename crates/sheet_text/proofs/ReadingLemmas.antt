@@ -9,7 +9,8 @@ use Rattle.ledger_text.proofs.ReadingLemmas.{reading_of_text, no_reading}
 use Rattle.sheet_text.specs.Asks.{ask_at, ask_in}
 
 -- what a line with a value asks for
-pub ask_of_value : (line : List ℕ) (value : Data) → IsUtf8 line → read line ≡ Some value → ask_in line ≡ ask_at (Some value)
+pub ask_of_value : (line : List ℕ) (value : Data) → IsUtf8 line → read line ≡ Some value
+    → ask_in line ≡ ask_at (Some value)
 unfolding ask_in
 ask_of_value line value utf8 is = ap ask_at (reading_of_text line value utf8 is)
 

@@ -1,8 +1,9 @@
--- What a line of sheets asks for. It is read as a line of the ledger is: it is one JSON value, whose member `do` says what
--- is asked for, which needs some members, and each member has a form, which is its rule. Other members are passed over,
--- and of members with one name the last counts. A line with a member that is missing or not of its form is refused by the
--- least rule that it breaks. The rules that the ledger has too have its numbers.
-use Rattle.std.specs.Prelude.{ℕ, ◌≤◌, ◌^◌, List, length, codes, Option, Some, None, option_and_then, Result, Ok, Err, if◌then◌else◌}
+-- What a line of sheets asks for. It is read as a line of the ledger is: it is one JSON value, whose member `do` says
+-- what is asked for, which needs some members, and each member has a form, which is its rule. Other members are passed
+-- over, and of members with one name the last counts. A line with a member that is missing or not of its form is refused
+-- by the least rule that it breaks. The rules that the ledger has too have its numbers.
+use Rattle.std.specs.Prelude.{ℕ, ◌≤◌, ◌^◌, List, length, codes, if◌then◌else◌}
+use Rattle.std.specs.Prelude.{Option, Some, None, option_and_then, Result, Ok, Err}
 use Rattle.std.specs.Str.{bytes_eq}
 use Rattle.serde_json.specs.Data.{Data}
 use Rattle.ledger_spec.specs.declared.TextFault.{TextFault}

@@ -1,5 +1,5 @@
-// What the lines ask for, each of the members that it needs: these are read by the numbers of their rules, in rising order,
-// so that the first fault is that of the least broken rule.
+// What the lines ask for, each of the members that it needs: these are read by the numbers of their rules, in rising
+// order, so that the first fault is that of the least broken rule.
 ghost use Rattle.std.specs.Prelude.{◌≡◌, Some, IfOk};
 ghost use Rattle.serde_json.specs.View.{view};
 ghost use Rattle.sheet_text.specs.Asks.{sheet_of, sold_of, ask_of, ask_at, AskIsInRange};

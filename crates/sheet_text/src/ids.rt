@@ -5,8 +5,8 @@ ghost use Rattle.sheet_text.specs.Ids.{id_of as id_text};
 use ledger_spec::Name;
 use line_text::Line;
 
-/// The id of the order of a token: the name of its sheet, of at most 30 bytes, then `-`, and the digit of its place, which
-/// is from 1 to 8. The token at place 2 of the sheet `S1` has the order `S1-2`.
+/// The id of the order of a token: the name of its sheet, of at most 30 bytes, then `-`, and the digit of its place,
+/// which is from 1 to 8. The token at place 2 of the sheet `S1` has the order `S1-2`.
 pub fn id_of(sheet: &Name, place: u8) -> Name
     requires short { length sheet.now ≤ 30 }
     requires place { (1 ≤ place) × (place ≤ 8) }

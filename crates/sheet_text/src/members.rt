@@ -1,5 +1,5 @@
-// The members of a line's value that the ledger has no rule for, each by its own: None where the member is missing or not
-// of its form.
+// The members of a line's value that the ledger has no rule for, each by its own: None where the member is missing or
+// not of its form.
 ghost use Rattle.std.specs.Prelude.{◌≡◌, ◌≤◌, ◌^◌, length, IfSome};
 ghost use Rattle.serde_json.specs.View.{view};
 ghost use Rattle.sheet_text.specs.Asks.{sheet_in, place_in, sale_in, money_in, tokens_in};

@@ -20,8 +20,8 @@ fn sold_in(alloc: Global, line: &[u8]) -> Option<Sold> {
     }
 }
 
-/// One sheet, written in other ways: with members in another order, one that is told twice, of which the last counts, and
-/// one that isn't needed.
+/// One sheet, written in other ways: with members in another order, one that is told twice, of which the last counts,
+/// and one that isn't needed.
 const SHEETS: [&[u8]; 4] = [
     br#"{"do":"sheet","sheet":"S1","serial":"A1","amount":350,"tokens":2}"#,
     br#"{"tokens":2,"amount":350,"serial":"A1","sheet":"S1","do":"sheet"}"#,

@@ -7,8 +7,8 @@ use ledger_spec::Name;
 use ledger_text::pieces::{done, push_number, push_text};
 use line_text::Line;
 
-/// The line of the report that is kept of a place: the sheet, the place, and the sale with its money. It has no end of a
-/// line, for which there is room.
+/// The line of the report that is kept of a place: the sheet, the place, and the sale with its money. It has no end of
+/// a line, for which there is room.
 pub fn sold_line(sheet: &Name, place: u8, sale: &Name, money: u64) -> Line
     ensures text { result ≡ sold_text sheet.now place sale.now money }
     ensures len { length result ≤ 511 }
