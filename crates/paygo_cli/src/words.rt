@@ -37,6 +37,7 @@ pub fn work_in(words: &[&str]) -> Option<Work>
     ensures range { IfSome result WorkIsInRange }
 {
     match words {
+        [] => None,
         [word] => alone(word),
         [word, file] => with_file(word, file),
         [word, first, second] => with_files(word, first, second),

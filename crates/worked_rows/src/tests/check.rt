@@ -7,7 +7,8 @@ use paygo_spec::Memory;
 const CHECK: [&str; 1] = ["check"];
 
 /// A device that is made, a token whose power is cut, and the token once more.
-const FRONT: &str = "> power\n< unmade\n> make 00000000000000000000000000000000 123456789 1 9\n< up 0 0 0\n\
+const FRONT: &str =
+    "> power\n< unmade\n> make 00000000000000000000000000000000 123456789 1 9\n< up 0 0 0\n\
 > keys 123463819#\n< down\n> power\n< up 1 2592000 0\n> keys 123463819#\n";
 
 #[test]

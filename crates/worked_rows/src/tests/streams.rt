@@ -1,7 +1,7 @@
 // Words of the command line, and sources and sinks that fail.
 use super::{CALM, DEVICE, Plan, answered};
-use line_loop::{Lines, LinesFault, Next};
 use ledger_keeper::MemKeeper;
+use line_loop::{Lines, LinesFault, Next};
 use memory_ports::{MemFlash, MemSink, MemSource, WatchedSink, WatchedSource};
 use paygo_cli::{Status, run};
 use paygo_spec::Memory;
