@@ -130,9 +130,10 @@ class Run:
         return self.paces.get(line[0], 0.002)
 
     def killed_turn(self, line, moment):
-        """A line, in the middle of which all processes are killed: at this part of the time that two such answers take."""
+        """A line, in the middle of which all processes are killed: at this part, from 0 to 1, of a little more than the time that such an
+        answer takes."""
         self.say(line)
-        time.sleep(moment * 2 * self.pace(line))
+        time.sleep(moment * 1.3 * self.pace(line))
         self.stop()
         said = self.rest()
         wanted = answers_to(line, self.on)
