@@ -6,8 +6,7 @@ use ledger_keeper::Keeper;
 use ledger_spec::{Answer, Command, LedgerFault, TextFault};
 use ledger_text::read;
 use line_loop::{LineFault, as_line_fault};
-use line_output::{write_answer, write_fault, write_reply, write_text};
-use line_text::Line;
+use line_output::{write_answer, write_fault, write_long, write_reply, write_text};
 use loan_ledger::apply;
 use paygo_ports::{Flash, Sink, WriteFault};
 use paygo_spec::{Event, Reply};
@@ -256,10 +255,7 @@ impl<M: Mixer> Bench<M> {
         ensures works { Says M.next (Say (codes "long " ++ decimal size) ∷ []) result (K.view sink.old)
             (K.view sink.new) }
     {
-        let mut text = Line::new();
-        text.push(b"long");
-        text.push_number(size);
-        write_text(sink, text.as_bytes())
+        write_long(sink, size)
     }
 
     // The keys of a text, each answered before the next one is pressed.

@@ -3,4 +3,6 @@
 
 mod output;
 
-pub use output::{write_all, write_answer, write_fault, write_line, write_reply, write_text};
+pub use output::{
+    write_all, write_answer, write_fault, write_line, write_long, write_reply, write_text,
+};

@@ -1,5 +1,6 @@
 // Answers written to a sink.
-ghost use Rattle.std.specs.Prelude.{◌≡◌, ◌≤◌, ◌++◌, ◌∷◌, [], Some, length};
+ghost use Rattle.std.specs.Prelude.{◌≡◌, ◌≤◌, ◌++◌, ◌∷◌, [], Some, codes, length};
+ghost use Rattle.std.specs.Fmt.{decimal};
 ghost use Rattle.std.specs.Option.{option_map};
 ghost use Rattle.paygo_spec.specs.Faults.{Counted};
 ghost use Rattle.ledger_spec.specs.AnswerText.{text_of_fault};
@@ -77,6 +78,22 @@ pub fn write_text<K: Sink>(sink: &mut K, text: &[u8]) -> Result<(), WriteFault>
     let mut line = Line::new();
     line.push(text);
     write_line(sink, line)
+}
+
+/// Writes the answer to a line of more than 4,096 bytes: `long`, and how many bytes it has.
+///
+/// # Errors
+///
+/// `WriteFault` as in [`write_line`].
+pub fn write_long<K: Sink>(sink: &mut K, size: u64) -> Result<(), WriteFault>
+    ensures wrote { Wrote (line_of_answer (Some (Said (codes "long " ++ decimal size)))) result (K.view sink.old)
+        (K.view sink.new) }
+    ensures cause { Counted result (K.view sink.old).faults (K.view sink.new).faults }
+{
+    let mut text = Line::new();
+    text.push(b"long");
+    text.push_number(size);
+    write_text(sink, text.as_bytes())
 }
 
 /// Writes the line of the ledger's answer.

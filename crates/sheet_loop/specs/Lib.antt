@@ -1,0 +1,4 @@
+pub mod Office
+pub mod Sheets
+pub mod Served
+pub mod Counting
