@@ -43,14 +43,14 @@ no_cut : (n : ℕ) → n < 0 → ⊥
 no_cut n below = omega (arith, below)
 
 -- what became of tables that are told, at a command that was answered
-applied_ok : (does : Tables → LedgerDone) (answer : LedgerAnswer) (old new : Option Tables) (tables : Tables) → old ≡ Some tables → AppliedTo does (Ok answer) old new → (answer ≡ (does tables).answer) × (new ≡ Some (does tables).tables)
+pub applied_ok : (does : Tables → LedgerDone) (answer : LedgerAnswer) (old new : Option Tables) (tables : Tables) → old ≡ Some tables → AppliedTo does (Ok answer) old new → (answer ≡ (does tables).answer) × (new ≡ Some (does tables).tables)
 applied_ok does answer None new tables is applied = cc
 applied_ok does answer (Some told) new tables is applied =
     let same : told ≡ tables = cc in
     (applied.0 ∙ ap (λ (t : Tables). (does t).answer) same, applied.1 ∙ ap (λ (t : Tables). Some (does t).tables) same)
 
 -- the tables as before a command at which the keeper failed, or with its whole change
-either_way : (does : Tables → LedgerDone) (old new : Option Tables) (tables : Tables) → old ≡ Some tables → AppliedTo does (Err ledger_fault.Keeper) old new → (new ≡ Some tables) ⊎ (new ≡ Some (does tables).tables)
+pub either_way : (does : Tables → LedgerDone) (old new : Option Tables) (tables : Tables) → old ≡ Some tables → AppliedTo does (Err ledger_fault.Keeper) old new → (new ≡ Some tables) ⊎ (new ≡ Some (does tables).tables)
 either_way does old new tables is (inl same) = inl (same ∙ is)
 either_way does old new tables is (inr whole) = inr (whole ∙ ap (option_map (λ (t : Tables). (does t).tables)) is)
 

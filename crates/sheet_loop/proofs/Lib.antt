@@ -1,0 +1,5 @@
+pub mod Giving
+pub mod Selling
+pub mod Reporting
+pub mod Lines
+pub mod Looping
