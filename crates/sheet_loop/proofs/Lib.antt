@@ -3,3 +3,4 @@ pub mod Selling
 pub mod Reporting
 pub mod Lines
 pub mod Looping
+pub mod Counting
