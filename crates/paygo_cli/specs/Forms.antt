@@ -13,13 +13,15 @@ use Rattle.paygo_cli.specs.declared.words.Work.TheVariants as work
 abbrev pub work_alone : List ℕ → Option Work
 work_alone word = if bytes_eq word (codes "check") then Some work.Check else None
 
--- What the words ask for by the first one and the name of one file, which isn't empty: `serve DB`, `device FLASH` or `audit DB`.
+-- What the words ask for by the first one and the name of one file, which isn't empty: `serve DB`, `device FLASH`, `audit DB` or
+-- `sheets DB`.
 abbrev pub work_with_file : List ℕ → List ℕ → Option Work
 work_with_file word file =
     if length file == 0 then None
     else if bytes_eq word (codes "serve") then Some (work.Lines mode.Serve)
     else if bytes_eq word (codes "device") then Some (work.Lines mode.Device)
     else if bytes_eq word (codes "audit") then Some work.Audit
+    else if bytes_eq word (codes "sheets") then Some work.Sheets
     else None
 
 -- The number that a word of 1 to 20 decimal digits says, where it lies between these two.
@@ -93,6 +95,7 @@ work_of _ = None
 abbrev pub takes_lines : Option Work → Bool
 takes_lines (Some (work.Lines mode)) = true
 takes_lines (Some work.Check) = true
+takes_lines (Some work.Sheets) = true
 takes_lines _ = false
 
 -- The numbers of a fleet are in range.
@@ -108,7 +111,7 @@ WorkIsInRange _ = Unit {0}
 abbrev pub message_of : Status → Option (List ℕ)
 message_of status.Ok = None
 message_of status.Usage =
-    Some (codes "usage: paygo serve DB | device FLASH | bench DB FLASH | audit DB | fleet SEED DEVICES DAYS | advise DB SERIAL FLOOR | check | ring FLASH BANKS")
+    Some (codes "usage: paygo serve DB | device FLASH | bench DB FLASH | audit DB | fleet SEED DEVICES DAYS | sheets DB | advise DB SERIAL FLOOR | check | ring FLASH BANKS")
 message_of status.Read = Some (codes "paygo: read fault")
 message_of status.Write = Some (codes "paygo: write fault")
 message_of status.Keep = Some (codes "paygo: keeper fault")

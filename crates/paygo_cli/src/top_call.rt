@@ -10,6 +10,7 @@ ghost use Rattle.bench_loop.specs.Runs.{RunsTold, RunsUnseen};
 ghost use Rattle.deal_runs.specs.Programs.{RunsOn};
 ghost use Rattle.paygo_cli.specs.declared.words.Behind.{Behind};
 ghost use Rattle.check_loop.specs.Logs.{ChecksLog};
+ghost use Rattle.sheet_loop.specs.Sheets.{RunsSheets};
 ghost use Rattle.paygo_cli.specs.Forms.{work_of, takes_lines};
 ghost use Rattle.paygo_cli.specs.Ends.{WritesText, WritesFleet};
 ghost use Rattle.paygo_cli.specs.Advised.{WritesAdvice};
@@ -23,6 +24,7 @@ use check_loop::run_check;
 use ledger_keeper::Keeper;
 use paygo_ports::{Flash, Sink, Source};
 use run_spec::Status;
+use sheet_loop::run_sheets;
 use std::alloc::Global;
 use token_chain::Mixer;
 
@@ -31,7 +33,8 @@ use token_chain::Mixer;
 /// event happens or the next line is taken. The device is off at first. `ring FLASH BANKS` does what `device FLASH` does, and all
 /// that is said of `device` holds of it; its caller hands in a ring of so many banks (`banks_in`) as the flash. `audit DB` checks each token that the keeper's tables
 /// hold, and writes the ids of the wrong ones and how many there are. `fleet SEED DEVICES DAYS` draws a fleet from the seed, runs
-/// it in memory, and writes its totals. `advise DB SERIAL FLOOR` writes the fewest of the serial's orders whose tokens bring a
+/// it in memory, and writes its totals. `sheets DB` takes the lines of the source as those of agents: payments for sheets of tokens,
+/// and reports of their sales, and writes behind their answers what all reports come to. `advise DB SERIAL FLOOR` writes the fewest of the serial's orders whose tokens bring a
 /// device up to date whose last count is at least the floor. `check` takes the lines of the source as a log of a `bench` run, and
 /// writes whether any run of shop and device that began with empty tables and an erased flash has it.
 ///
@@ -41,11 +44,11 @@ use token_chain::Mixer;
 /// - `Read` where the source failed, and only where lines are taken. Every whole line was answered.
 /// - `Write` where the sink failed. The steps of the lines were answered up to one whose answer was cut, and no later one was
 ///   taken; each earlier answer was written whole. The text of an audit, a fleet or an advice was cut.
-/// - `Keep` where the keeper failed, and never for `device`, `fleet` and `check`. Every line before one that asks for a command was
-///   answered; the tables are as before that command, or have its whole change. Of an audit and an advice nothing was written.
-/// - `Memory` where there was none for a line of the ledger or of a log, for the audit, the fleet or the advice; never for `device`. Every line
-///   before it was answered, and the tables are as before it. Of an audit, a fleet, an advice and a check nothing was
-///   written.
+/// - `Keep` where the keeper failed, and never for `device`, `fleet` and `check`. Every answer before that of one command was
+///   written; the tables are as before that command, or have its whole change. Of an audit and an advice nothing was written.
+/// - `Memory` where there was none for a line of the ledger, of an agent or of a log, for the audit, the fleet or the advice; never for
+///   `device`. Every answer before it was written, and the tables are those behind it. Of an audit, a fleet, an advice and a check
+///   nothing was written.
 /// - `Long` where lines are taken, exactly where 2^40 bytes were handed out, the source hasn't told its end, and every whole line
 ///   was answered.
 ///
@@ -66,7 +69,9 @@ use token_chain::Mixer;
 /// each planned power cut in the event in which it falls; where none is planned they are a function of the words (`simulated`). An
 /// advice changes nothing, and over tables that are told what is written is that of the device's orders and limit (`advised`). A
 /// check writes the verdict on the log, `yes` exactly where it is the whole log of a run and never more than 64 states fit
-/// (`checked`, with the laws of log_check). It takes memory but for `device`.
+/// (`checked`, with the laws of log_check). The answers to agents over tables that are told are those of the ledger and of the reports,
+/// and no payment is made behind the one at which the run ends (`sold`, with the laws of sheet_loop). It takes memory but for
+/// `device`.
 pub fn run<M: Mixer, S: Source, K: Sink, D: Keeper, F: Flash>(
     alloc: Global,
     words: &[&str],
@@ -88,6 +93,7 @@ pub fn run<M: Mixer, S: Source, K: Sink, D: Keeper, F: Flash>(
         work_of (map (λ word. word.now) words.now) ≡ Some (Work.Fleet seed devices days) →
         (source.new ≡ source.old) × (keeper.new ≡ keeper.old) × (flash.new ≡ flash.old) × (result ≢ Status.Read) ×
         (result ≢ Status.Keep) × (result ≢ Status.Long) }
+    ensures sheets { work_of (map (λ word. word.now) words.now) ≡ Some Work.Sheets → flash.new ≡ flash.old }
     ensures advise { (behind : Behind) →
         work_of (map (λ word. word.now) words.now) ≡ Some (Work.Advise behind) →
         (source.new ≡ source.old) × (flash.new ≡ flash.old) ×
@@ -125,6 +131,10 @@ pub fn run<M: Mixer, S: Source, K: Sink, D: Keeper, F: Flash>(
     ensures simulated { (seed devices days : ℕ) →
         work_of (map (λ word. word.now) words.now) ≡ Some (Work.Fleet seed devices days) →
         WritesFleet M.next seed devices days result (K.view sink.old) (K.view sink.new) }
+    ensures sold { work_of (map (λ word. word.now) words.now) ≡ Some Work.Sheets →
+        RunsSheets M.next result
+        (outside (S.view source.old) (K.view sink.old) (D.view keeper.old) (F.view flash.old))
+        (outside (S.view source.new) (K.view sink.new) (D.view keeper.new) (F.view flash.new)) }
     ensures advised { (behind : Behind) →
         work_of (map (λ word. word.now) words.now) ≡ Some (Work.Advise behind) →
         (tables : Tables) → (D.view keeper.old).tables ≡ Some tables →
@@ -145,6 +155,7 @@ pub fn run<M: Mixer, S: Source, K: Sink, D: Keeper, F: Flash>(
                 days,
             },
         ) => run_simulation::<M, K>(alloc, seed, devices, days, sink),
+        Some(Work::Sheets) => run_sheets::<M, S, K, D, F>(alloc, source, sink, keeper, flash),
         Some(Work::Advise(behind)) => run_advice::<K, D>(alloc, &behind, sink, keeper),
         Some(Work::Check) => run_check::<M, S, K, D, F>(alloc, source, sink, keeper, flash),
         None => Status::Usage,

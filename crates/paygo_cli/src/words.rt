@@ -16,6 +16,8 @@ pub enum Work {
     Audit,
     /// A fleet of 1 to 200 devices over 1 to 400 days is drawn from a number, and run: `fleet SEED DEVICES DAYS`.
     Fleet { seed: u64, devices: u32, days: u32 },
+    /// The lines are those of agents, who buy sheets of tokens and report their sales: `sheets DB`.
+    Sheets,
     /// The way back is told for a device that fell behind: `advise DB SERIAL FLOOR`.
     Advise(Behind),
     /// The lines are a log of a `bench` run, and it is said whether a run has it: `check`.
@@ -58,7 +60,7 @@ fn alone(word: &str) -> Option<Work>
     }
 }
 
-// `serve DB`, `device FLASH` or `audit DB`
+// `serve DB`, `device FLASH`, `audit DB` or `sheets DB`
 fn with_file(word: &str, file: &str) -> Option<Work>
     ensures work { result ≡ work_with_file word.now file.now }
     ensures range { IfSome result WorkIsInRange }
@@ -70,6 +72,7 @@ fn with_file(word: &str, file: &str) -> Option<Work>
         "serve" => Some(Work::Lines(Mode::Serve)),
         "device" => Some(Work::Lines(Mode::Device)),
         "audit" => Some(Work::Audit),
+        "sheets" => Some(Work::Sheets),
         _ => None,
     }
 }
@@ -212,7 +215,7 @@ pub fn message(status: Status) -> Option<&'static str>
     match status {
         Status::Ok => None,
         Status::Usage => Some(
-            "usage: paygo serve DB | device FLASH | bench DB FLASH | audit DB | fleet SEED DEVICES DAYS | advise DB SERIAL FLOOR | check | ring FLASH BANKS",
+            "usage: paygo serve DB | device FLASH | bench DB FLASH | audit DB | fleet SEED DEVICES DAYS | sheets DB | advise DB SERIAL FLOOR | check | ring FLASH BANKS",
         ),
         Status::Read => Some("paygo: read fault"),
         Status::Write => Some("paygo: write fault"),
