@@ -5,6 +5,7 @@ use Rattle.std.specs.Fmt.{decimal}
 use Rattle.std.proofs.lemmas.Bool.Decides.{nat_tests}
 use Rattle.ledger_spec.specs.declared.Answer.{Answer}
 use Rattle.ledger_spec.specs.declared.Ask.{Ask as Bought}
+use Rattle.ledger_spec.specs.declared.Ask.TheVariants as bought
 use Rattle.ledger_spec.specs.declared.Issue.{Issue}
 use Rattle.ledger_spec.specs.declared.Order.{Order}
 use Rattle.ledger_spec.specs.declared.Row.{Row}
@@ -26,7 +27,7 @@ use Rattle.sheet_text.specs.Asks.{ask_in}
 use Rattle.sheet_text.specs.Ids.{id_of}
 use Rattle.sheet_text.specs.Texts.{sales_text}
 use Rattle.sheet_text.proofs.IdLemmas.{id_tells}
-use Rattle.sheet_loop.specs.Office.{Office, Answered, answers_of_ask, answers_of_line, answers_of_reading, answers_of_text, answers_to, behind, is_order, kept, payment, payments, reported, served}
+use Rattle.sheet_loop.specs.Office.{Office, Answered, answers_of_ask, answers_of_line, answers_of_reading, answers_of_text, answers_to, behind, holds_order, kept, payment, payments, reported, served}
 use Rattle.sheet_loop.specs.Sheets.{opened}
 use Rattle.sheet_loop.specs.Counting.{CountsTokens, IsIn, Reports, ReportSales, SameLines, last_behind}
 use Rattle.sheet_loop.proofs.Giving.{behind-append}
@@ -194,14 +195,14 @@ module _ (next : List ℕ → ℕ → ℕ) where
   HasOrders office = (place : Key) → IsReported place office.reports → IsSome (order_of office.tables (id_of place.sheet place.place))
 
   served_has : (sheet : Sheet) (place : ℕ) (office : Office) → HasOrders office → HasOrders (served next (payment sheet place) office).office
-  served_has sheet place office has key is = asked_keeps office.tables _ _ _ (row_of office.tables sheet.serial) (id_of key.sheet key.place) (has key is)
+  served_has sheet place office has key is = asked_keeps office.tables (id_of sheet.sheet place) sheet.serial (bought.Pay sheet.amount) (row_of office.tables sheet.serial) (id_of key.sheet key.place) (has key is)
 
   payments_have : (sheet : Sheet) (place left : ℕ) (office : Office) → HasOrders office → HasOrders (behind office (payments next sheet place left office))
   payments_have sheet place zero office has = has
   payments_have sheet place (suc left) office has =
       let one = served next (payment sheet place) office in
       let first = served_has sheet place office has in
-      by_order (is_order (done next office.tables (payment sheet place)).answer) one first (payments_have sheet (place + 1) left one.office first)
+      by_order (holds_order (done next office.tables (payment sheet place)).answer) one first (payments_have sheet (place + 1) left one.office first)
     where
       by_order : (order : Bool) (one : Answered) → HasOrders one.office → HasOrders (behind one.office (payments next sheet (place + 1) left one.office))
           → HasOrders (behind office (if order then one ∷ payments next sheet (place + 1) left one.office else one ∷ []))
@@ -210,7 +211,7 @@ module _ (next : List ℕ → ℕ → ℕ) where
 
   reported_has : (sold : Sold) (found : Option Order) (office : Office) → order_of office.tables (id_of sold.sheet sold.place) ≡ found → HasOrders office
       → HasOrders (behind office (reported sold found office))
-  reported_has sold None office found has = has
+  reported_has sold None office found has place is = has place is
   reported_has sold (Some order) office found has place (sale, among) =
       ⊎_elim
       (λ (new : record { key = place; sale = sale } ≡ report_of sold.sheet sold.place sold.sale sold.money).

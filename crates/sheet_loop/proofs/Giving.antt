@@ -44,11 +44,11 @@ module _ (start : Office) (given : List Answered) (old mid new : SinkView) (keep
     written = written_more old.written mid.written new.written given more first leaves.written;
   }
 
-  pub cut_more : (more open : List Answered) → LeavesCut more open mid keeper new → LeavesCut (given ++ more) open old keeper new
-  cut_more more open leaves = record {
+  pub cut_more : (more left : List Answered) → LeavesCut more left mid keeper new → LeavesCut (given ++ more) left old keeper new
+  cut_more more left leaves = record {
     failed = leaves.failed;
     later = leaves.later;
-    open_are = leaves.open_are;
+    left_are = leaves.left_are;
     tables = leaves.tables;
     more = leaves.more;
     fewer = leaves.fewer;
@@ -57,11 +57,11 @@ module _ (start : Office) (given : List Answered) (old mid new : SinkView) (keep
         ∙ ap (λ l. l ++ take leaves.more (line_of leaves.failed)) (sym (text-append given more)));
   }
 
-  pub doubt_more : (more open : List Answered) → LeavesDoubt (behind start given) more open mid keeper new → LeavesDoubt start (given ++ more) open old keeper new
-  doubt_more more open leaves = record {
+  pub doubt_more : (more left : List Answered) → LeavesDoubt (behind start given) more left mid keeper new → LeavesDoubt start (given ++ more) left old keeper new
+  doubt_more more left leaves = record {
     failed = leaves.failed;
     later = leaves.later;
-    open_are = leaves.open_are;
+    left_are = leaves.left_are;
     tables = ⊎_elim
         (λ (same : keeper.tables ≡ Some (behind (behind start given) more).tables). inl (same ∙ ap (λ (o : Office). Some o.tables) (sym (behind-append start given more))))
         (λ (whole : keeper.tables ≡ Some leaves.failed.office.tables). inr whole)
@@ -69,25 +69,25 @@ module _ (start : Office) (given : List Answered) (old mid new : SinkView) (keep
     written = written_more old.written mid.written new.written given more first leaves.written;
   }
 
-  by_more : (outcome : Result (Unit {0}) LineFault) (more open : List Answered) (book : Book) → GaveBy outcome (behind start given) more open mid keeper book new
-      → GaveBy outcome start (given ++ more) open old keeper book new
-  by_more (Ok done) more open book gave = record {
+  by_more : (outcome : Result (Unit {0}) LineFault) (more left : List Answered) (book : Book) → GaveBy outcome (behind start given) more left mid keeper book new
+      → GaveBy outcome start (given ++ more) left old keeper book new
+  by_more (Ok done) more left book gave = record {
     all = gave.all;
     stands = subst (λ (o : Office). StandsAs keeper book o) (sym (behind-append start given more)) gave.stands;
     leaves = whole_more more gave.leaves;
   }
-  by_more (Err fault.Write) more open book gave = cut_more more open gave
-  by_more (Err fault.Keep) more open book gave = doubt_more more open gave
-  by_more (Err fault.Memory) more open book gave = whole_more more gave
+  by_more (Err fault.Write) more left book gave = cut_more more left gave
+  by_more (Err fault.Keep) more left book gave = doubt_more more left gave
+  by_more (Err fault.Memory) more left book gave = whole_more more gave
 
   -- what became of answers is what became of them behind those that were given
   pub gave_more : (outcome : Result (Unit {0}) LineFault) (answers : List Answered) (book : Book) → Gave answers outcome (behind start given) mid keeper book new
       → Gave (given ++ answers) outcome start old keeper book new
   gave_more outcome answers book gave = record {
     given = given ++ gave.given;
-    open = gave.open;
-    split = ap (λ l. given ++ l) gave.split ∙ sym (append_assoc given gave.given gave.open);
-    by = by_more outcome gave.given gave.open book gave.by;
+    left = gave.left;
+    split = ap (λ l. given ++ l) gave.split ∙ sym (append_assoc given gave.given gave.left);
+    by = by_more outcome gave.given gave.left book gave.by;
   }
 
 -- what was given is all there was
@@ -102,12 +102,16 @@ all_given answers start old keeper book new gave =
     }
 
 -- nothing was to be answered
+pub none_given : (start : Office) (sink : SinkView) (keeper : KeeperView) (book : Book) → StandsAs keeper book start → GaveAll start [] [] sink keeper book sink
+none_given start sink keeper book stands =
+    record { all = refl; stands = stands; leaves = record { tables = stands.tables; written = sym (append-nil sink.written) } }
+
 pub gave_none : (start : Office) (sink : SinkView) (keeper : KeeperView) (book : Book) → StandsAs keeper book start → Gave [] (Ok tt) start sink keeper book sink
 gave_none start sink keeper book stands = record {
   given = [];
-  open = [];
+  left = [];
   split = refl;
-  by = record { all = refl; stands = stands; leaves = record { tables = stands.tables; written = sym (append-nil sink.written) } };
+  by = none_given start sink keeper book stands;
 }
 
 -- one answer, whose command was done, is written
@@ -115,7 +119,7 @@ pub gave_one : (answer : Answered) (result : Result (Unit {0}) WriteFault) (star
     → StandsAs keeper book answer.office → Wrote (line_of answer) result old new → Gave (answer ∷ []) (of_line result) start old keeper book new
 gave_one answer (Ok done) start old keeper book new stands wrote = record {
   given = answer ∷ [];
-  open = [];
+  left = [];
   split = refl;
   by = record {
     all = refl;
@@ -125,12 +129,12 @@ gave_one answer (Ok done) start old keeper book new stands wrote = record {
 }
 gave_one answer (Err failed) start old keeper book new stands wrote = record {
   given = [];
-  open = answer ∷ [];
+  left = answer ∷ [];
   split = refl;
   by = record {
     failed = answer;
     later = [];
-    open_are = refl;
+    left_are = refl;
     tables = stands.tables;
     more = wrote.0;
     fewer = wrote.1;
@@ -149,7 +153,7 @@ pub gave_unmade : (answers : Office → List Answered) (was keeper : KeeperView)
     → Gives answers (Err fault.Memory) was book sink keeper book' sink
 gave_unmade answers was keeper book book' sink same office stands = record {
   given = [];
-  open = answers office;
+  left = answers office;
   split = refl;
   by = record { tables = same ∙ stands.tables; written = sym (append-nil sink.written) };
 }
@@ -159,12 +163,12 @@ pub gave_doubt : (answer : Answered) (start : Office) (keeper : KeeperView) (boo
     → (keeper.tables ≡ Some start.tables) ⊎ (keeper.tables ≡ Some answer.office.tables) → Gave (answer ∷ []) (Err fault.Keep) start sink keeper book sink
 gave_doubt answer start keeper book sink either = record {
   given = [];
-  open = answer ∷ [];
+  left = answer ∷ [];
   split = refl;
   by = record {
     failed = answer;
     later = [];
-    open_are = refl;
+    left_are = refl;
     tables = either;
     written = sym (append-nil sink.written);
   };
@@ -175,16 +179,16 @@ pub gave_front : (answers more : List Answered) (failed : LineFault) (start : Of
     → Gave answers (Err failed) start old keeper book new → Gave (answers ++ more) (Err failed) start old keeper book new
 gave_front answers more failed start old keeper book new gave = record {
   given = gave.given;
-  open = gave.open ++ more;
-  split = ap (λ l. l ++ more) gave.split ∙ append_assoc gave.given gave.open more;
+  left = gave.left ++ more;
+  split = ap (λ l. l ++ more) gave.split ∙ append_assoc gave.given gave.left more;
   by = front failed gave.by;
 }
   where
-    front : (failed : LineFault) → GaveBy (Err failed) start gave.given gave.open old keeper book new → GaveBy (Err failed) start gave.given (gave.open ++ more) old keeper book new
+    front : (failed : LineFault) → GaveBy (Err failed) start gave.given gave.left old keeper book new → GaveBy (Err failed) start gave.given (gave.left ++ more) old keeper book new
     front fault.Write leaves = record {
       failed = leaves.failed;
       later = leaves.later ++ more;
-      open_are = ap (λ l. l ++ more) leaves.open_are;
+      left_are = ap (λ l. l ++ more) leaves.left_are;
       tables = leaves.tables;
       more = leaves.more;
       fewer = leaves.fewer;
@@ -193,7 +197,7 @@ gave_front answers more failed start old keeper book new gave = record {
     front fault.Keep leaves = record {
       failed = leaves.failed;
       later = leaves.later ++ more;
-      open_are = ap (λ l. l ++ more) leaves.open_are;
+      left_are = ap (λ l. l ++ more) leaves.left_are;
       tables = leaves.tables;
       written = leaves.written;
     }

@@ -5,6 +5,7 @@ use Rattle.std.specs.Fmt.{decimal}
 use Rattle.std.proofs.lemmas.Bool.Decides.{nat_tests}
 use Rattle.std.proofs.lemmas.List.{nil_from_length}
 use Rattle.ledger_spec.specs.declared.TextFault.{TextFault}
+use Rattle.ledger_spec.specs.declared.TextFault.TheVariants as text_fault
 use Rattle.run_spec.specs.Meaning.{trimmed}
 use Rattle.sheet_text.specs.Asks.{ask_in}
 use Rattle.sheet_loop.specs.Office.{Office, Answered, answers_of_line, answers_of_reading, answers_of_text, says}
@@ -25,7 +26,7 @@ long_said next line size office is long =
 pub none_said : (next : List ℕ → ℕ → ℕ) (line text : List ℕ) (office : Office) → length line ≤ 4096 → text ≡ trimmed line → length text ≡ 0
     → answers_of_line next line office ≡ []
 none_said next line text office most is none =
-    short next line office most ∙ ap (λ l. answers_of_text next l office) (sym is ∙ nil_from_length none)
+    short next line office most ∙ ap (λ l. answers_of_text next l office) (sym is ∙ nil_from_length text none)
 
 -- a text that begins with `{`
 json_text : (next : List ℕ → ℕ → ℕ) (text : List ℕ) (office : Office) → length text ≢ 0 → get_or text 0 0 ≡ 123
@@ -48,3 +49,8 @@ pub other_said : (next : List ℕ → ℕ → ℕ) (line text : List ℕ) (offic
     → answers_of_line next line office ≡ says (codes "no device here") office
 other_said next line text office most is some first =
     short next line office most ∙ ap (λ l. answers_of_text next l office) (sym is) ∙ other_text next text office some first
+
+-- what was read of a line is what it asks for, but for want of memory
+pub read_fault : (text : List ℕ) (fault : TextFault) → fault ≢ text_fault.Memory → (Err fault ≢ Err text_fault.Memory → Err fault ≡ ask_in text)
+    → ask_in text ≡ Err fault
+read_fault text fault other value = sym (value (λ same. other (let is : fault ≡ text_fault.Memory = cc in is)))

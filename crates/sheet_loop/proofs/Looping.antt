@@ -15,7 +15,7 @@ use Rattle.sheet_book.specs.Books.{StandsFor}
 use Rattle.sheet_loop.specs.Office.{Office, Answered, answers_of_line, answers_to, answers_with_last, behind, last_word, line_of}
 use Rattle.sheet_loop.specs.Sheets.{opened, BreaksOff, LeavesWhole, DidSheets, RunsSheets}
 use Rattle.sheet_loop.specs.Served.{StandsAs, GaveAll, Gave, Gives}
-use Rattle.sheet_loop.proofs.Giving.{all_given, behind-append, cut_more, doubt_more, gave_none, gave_more, whole_more, written_behind}
+use Rattle.sheet_loop.proofs.Giving.{all_given, behind-append, cut_more, doubt_more, none_given, gave_more, whole_more, written_behind}
 
 module _ {H : Type 0} (next : List ℕ → ℕ → ℕ) (book : H → Book) where
   -- what becomes of a line
@@ -32,7 +32,7 @@ module _ {H : Type 0} (next : List ℕ → ℕ → ℕ) (book : H → Book) wher
       → Handled gives_line lines first new → GaveAll start (answers_to next lines start) [] first.sink new.keeper (book new.handler) new.sink
   all_answered [] first new start stands same =
       subst (λ (d : Desk H). GaveAll start [] [] first.sink d.keeper (book d.handler) d.sink) (sym same)
-      (gave_none start first.sink first.keeper (book first.handler) stands).by
+      (none_given start first.sink first.keeper (book first.handler) stands)
   all_answered (line ∷ lines) first new start stands (mid, one, rest) =
       let own = answers_of_line next line start in
       let here = all_given own start first.sink mid.keeper (book mid.handler) mid.sink (one start stands) in
@@ -41,7 +41,7 @@ module _ {H : Type 0} (next : List ℕ → ℕ → ℕ) (book : H → Book) wher
       (gave_more start own first.sink mid.sink new.sink new.keeper here.leaves.written (Ok tt) (answers_to next lines (behind start own)) (book new.handler)
       record {
         given = answers_to next lines (behind start own);
-        open = [];
+        left = [];
         split = sym (append-nil (answers_to next lines (behind start own)));
         by = more;
       })
@@ -66,7 +66,7 @@ module _ {H : Type 0} (next : List ℕ → ℕ → ℕ) (book : H → Book) wher
       own : Gave (answers_of_line next fails.line (behind start earlier)) (Err failed) (behind start earlier) fails.mid.sink new.keeper (book new.handler) new.sink
       own = fails.fails (behind start earlier) so_far.stands
 
-      breaks_off : BreaksOff next now.ended taken start (earlier ++ own.given) own.open
+      breaks_off : BreaksOff next now.ended taken start (earlier ++ own.given) own.left
       breaks_off = record {
         earlier = fails.earlier;
         line = fails.line;
@@ -81,10 +81,10 @@ module _ {H : Type 0} (next : List ℕ → ℕ → ℕ) (book : H → Book) wher
       taken = taken;
       handed = handed;
       given = earlier fault.Write fails ++ (own fault.Write fails).given;
-      open = (own fault.Write fails).open;
+      left = (own fault.Write fails).left;
       ends = inl (breaks_off fault.Write fails);
       leaves = cut_more start (earlier fault.Write fails) first.sink fails.mid.sink new.sink new.keeper (so_far fault.Write fails).leaves.written
-          (own fault.Write fails).given (own fault.Write fails).open (own fault.Write fails).by;
+          (own fault.Write fails).given (own fault.Write fails).left (own fault.Write fails).by;
     }
 
     line_doubted : FailsAt gives_line fault.Keep now.ended taken first new → did status.Keep
@@ -92,10 +92,10 @@ module _ {H : Type 0} (next : List ℕ → ℕ → ℕ) (book : H → Book) wher
       taken = taken;
       handed = handed;
       given = earlier fault.Keep fails ++ (own fault.Keep fails).given;
-      open = (own fault.Keep fails).open;
+      left = (own fault.Keep fails).left;
       ends = breaks_off fault.Keep fails;
       leaves = doubt_more start (earlier fault.Keep fails) first.sink fails.mid.sink new.sink new.keeper (so_far fault.Keep fails).leaves.written
-          (own fault.Keep fails).given (own fault.Keep fails).open (own fault.Keep fails).by;
+          (own fault.Keep fails).given (own fault.Keep fails).left (own fault.Keep fails).by;
     }
 
     line_unmade : FailsAt gives_line fault.Memory now.ended taken first new → did status.Memory
@@ -103,7 +103,7 @@ module _ {H : Type 0} (next : List ℕ → ℕ → ℕ) (book : H → Book) wher
       taken = taken;
       handed = handed;
       given = earlier fault.Memory fails ++ (own fault.Memory fails).given;
-      open = (own fault.Memory fails).open;
+      left = (own fault.Memory fails).left;
       ends = breaks_off fault.Memory fails;
       leaves = whole_more start (earlier fault.Memory fails) first.sink fails.mid.sink new.sink new.keeper (so_far fault.Memory fails).leaves.written
           (own fault.Memory fails).given (own fault.Memory fails).by;
@@ -131,7 +131,7 @@ module _ {H : Type 0} (next : List ℕ → ℕ → ℕ) (book : H → Book) wher
       taken = taken;
       handed = handed;
       given = answers_with_last next (all_lines taken) start;
-      open = [];
+      left = [];
       ends = (refl, refl);
       leaves = whole_more start (lines (Ok tt) ends) first.sink ends.mid.sink new.sink new.keeper (answered (Ok tt) ends).leaves.written
           (last (Ok tt) ends ∷ [])
@@ -146,12 +146,12 @@ module _ {H : Type 0} (next : List ℕ → ℕ → ℕ) (book : H → Book) wher
       taken = taken;
       handed = handed;
       given = lines (Err failed) ends;
-      open = last (Err failed) ends ∷ [];
-      ends = inr (record { told = told; given_are = refl; open_is = refl });
+      left = last (Err failed) ends ∷ [];
+      ends = inr (record { told = told; given_are = refl; left_is = refl });
       leaves = record {
         failed = last (Err failed) ends;
         later = [];
-        open_are = refl;
+        left_are = refl;
         tables = ap (λ k. k.tables) (keeper_is (Err failed) ends) ∙ (answered (Err failed) ends).stands.tables;
         more = (said (Err failed) ends).0;
         fewer = (said (Err failed) ends).1;
@@ -170,7 +170,7 @@ module _ {H : Type 0} (next : List ℕ → ℕ → ℕ) (book : H → Book) wher
     taken = loops.taken;
     handed = loops.given;
     given = answers_to next (whole_lines loops.taken) start;
-    open = [];
+    left = [];
     ends = (refl, refl);
     leaves = whole was now first new start stands loops.taken loops.given (whole_lines loops.taken) loops.ends;
   }
@@ -178,7 +178,7 @@ module _ {H : Type 0} (next : List ℕ → ℕ → ℕ) (book : H → Book) wher
     taken = loops.taken;
     handed = loops.given;
     given = answers_to next (whole_lines loops.taken) start;
-    open = [];
+    left = [];
     ends = (refl, refl);
     leaves = whole was now first new start stands loops.taken loops.given (whole_lines loops.taken) loops.ends;
   }

@@ -1,7 +1,6 @@
 -- A report of a sale.
-use Rattle.std.proofs.Common.{◌≡◌, ◌⊎◌, inl, inr, ℕ, List, [], ◌∷◌, ◌++◌, Option, Some, None, Result, Ok, Err, refl, sym, ap, ◌∙◌, subst, cond}
+use Rattle.std.proofs.Common.{◌≡◌, ◌⊎◌, inl, inr, ℕ, true, false, List, [], ◌∷◌, ◌++◌, Option, Some, None, Result, Ok, Err, refl, sym, ap, ◌∙◌, subst, cond}
 use Rattle.std.specs.Option.{option_map}
-use Rattle.paygo_spec.specs.declared.Form.{Form}
 use Rattle.paygo_spec.specs.Streams.{SinkView}
 use Rattle.ledger_spec.specs.declared.Answer.{Answer}
 use Rattle.ledger_spec.specs.declared.Answer.TheVariants as answer_is
@@ -29,7 +28,7 @@ use Rattle.sheet_text.specs.declared.asks.Ask.TheVariants as ask_is
 use Rattle.sheet_text.specs.declared.asks.Sold.{Sold}
 use Rattle.sheet_text.specs.Ids.{id_of}
 use Rattle.sheet_text.specs.Texts.{sold_text}
-use Rattle.sheet_loop.specs.Office.{Office, Answered, answers_of_ask, counted, kept, reported, sale_in}
+use Rattle.sheet_loop.specs.Office.{Office, Answered, answers_of_ask, counted, holds_order, kept, reported, sale_in}
 use Rattle.sheet_loop.specs.Served.{StandsAs, Gave, Gives, fault_of}
 use Rattle.sheet_loop.proofs.Giving.{gave_one, gave_text, gave_unmade, gave_doubt}
 
@@ -68,26 +67,26 @@ module _ (next : List ℕ → ℕ → ℕ) (sold : Sold) (was now : KeeperView) 
       applied_ok (λ t. done next t (command_is.Order (id_of sold.sheet sold.place))) answer was.tables now.tables office.tables stands.tables applies.tables
 
   -- and the report was kept
-  pub report_kept : (answer : Answer) (order : Order) → (form : Form) → answer ≡ answer_is.Order order form
+  pub report_kept : (answer : Answer) → holds_order answer ≡ true
       → Applies (λ t. done next t (command_is.Order (id_of sold.sheet sold.place))) (Ok answer) was now
       → (outcome : Result (Unit {0}) LineFault) (book' : Book) (sink sink' : SinkView) → Gives (λ office. kept sold office ∷ []) outcome now book sink now book' sink'
       → Gives answers outcome was book sink now book' sink'
-  report_kept answer order form is applies outcome book' sink sink' gives office stands =
+  report_kept answer order applies outcome book' sink sink' gives office stands =
       let did = has_order answer applies office stands in
-      by_found (order_of office.tables (id_of sold.sheet sold.place)) refl (sym did.0 ∙ is) (gives office (record { tables = did.1; reports = stands.reports }))
+      by_found (order_of office.tables (id_of sold.sheet sold.place)) refl (ap holds_order (sym did.0) ∙ order) (gives office (record { tables = did.1; reports = stands.reports }))
     where
-      by_found : (found : Option Order) → order_of office.tables (id_of sold.sheet sold.place) ≡ found → told_order office.tables found ≡ answer_is.Order order form
+      by_found : (found : Option Order) → order_of office.tables (id_of sold.sheet sold.place) ≡ found → holds_order (told_order office.tables found) ≡ true
           → Gave (kept sold office ∷ []) outcome office sink now book' sink' → Gave (answers office) outcome office sink now book' sink'
       by_found None found told gave = cc
       by_found (Some kept_order) found told gave =
           subst (λ (o : Option Order). Gave (reported sold o office) outcome office sink now book' sink') (sym found) gave
 
   -- or it has none, which is answered
-  pub report_refused : (answer : Answer) → Applies (λ t. done next t (command_is.Order (id_of sold.sheet sold.place))) (Ok answer) was now
-      → ((order : Order) (form : Form) → answer ≡ answer_is.Order order form → ⊥)
+  pub report_refused : (answer : Answer) → holds_order answer ≡ false
+      → Applies (λ t. done next t (command_is.Order (id_of sold.sheet sold.place))) (Ok answer) was now
       → (result : Result (Unit {0}) WriteFault) (sink sink' : SinkView) → Wrote (text_of_answer answer ++ 10 ∷ []) result sink sink'
       → Gives answers (of_line result) was book sink now book sink'
-  report_refused answer applies other result sink sink' wrote office stands =
+  report_refused answer other applies result sink sink' wrote office stands =
       let did = has_order answer applies office stands in
       by_found (order_of office.tables (id_of sold.sheet sold.place)) refl did.0 (record { tables = did.1; reports = stands.reports })
     where
@@ -97,12 +96,12 @@ module _ (next : List ℕ → ℕ → ℕ) (sold : Sold) (was now : KeeperView) 
           subst (λ (o : Option Order). Gave (reported sold o office) (of_line result) office sink now book sink') (sym found)
           (gave_text (text_of_answer answer_is.NoOrder) result now book sink sink'
           (subst (λ (a : Answer). Wrote (text_of_answer a ++ 10 ∷ []) result sink sink') told wrote) office still)
-      by_found (Some order) found told still = absurd (other order _ told)
+      by_found (Some order) found told still = absurd (let both : true ≡ false = ap holds_order (sym told) ∙ other in cc)
 
   -- the keeper failed when it was asked, or there was no memory
   pub report_failed : (failed : LedgerFault) (sink : SinkView) → Applies (λ t. done next t (command_is.Order (id_of sold.sheet sold.place))) (Err failed) was now
       → Gives answers (Err (fault_of failed)) was book sink now book sink
-  report_failed ledger.Memory sink applies = gave_unmade answers was now book book sink applies.tables
+  report_failed ledger.Memory sink applies office stands = gave_unmade answers was now book book sink applies.tables office stands
   report_failed ledger.Keeper sink applies office stands =
       by_found (order_of office.tables (id_of sold.sheet sold.place)) refl (stays applies.tables)
     where

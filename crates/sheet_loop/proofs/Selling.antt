@@ -17,9 +17,9 @@ use Rattle.line_output.specs.Written.{Wrote}
 use Rattle.bench_run.proofs.Answering.{applied_ok, either_way}
 use Rattle.sheet_book.specs.declared.book.Book.{Book}
 use Rattle.sheet_text.specs.declared.asks.Sheet.{Sheet}
-use Rattle.sheet_loop.specs.Office.{Office, Answered, behind, is_order, payment, payments, served, line_of}
+use Rattle.sheet_loop.specs.Office.{Office, Answered, behind, holds_order, payment, payments, served, line_of}
 use Rattle.sheet_loop.specs.Served.{StandsAs, GaveAll, Gave, Gives, fault_of, plain}
-use Rattle.sheet_loop.proofs.Giving.{all_given, gave_front, gave_more, gave_none, gave_one, gave_doubt, gave_unmade, behind-append}
+use Rattle.sheet_loop.proofs.Giving.{all_given, gave_front, gave_more, none_given, gave_one, gave_doubt, gave_unmade, behind-append}
 
 module _ (next : List ℕ → ℕ → ℕ) (command : Command) (was now : KeeperView) (book : Book) where
   -- a command that was answered
@@ -37,15 +37,15 @@ module _ (next : List ℕ → ℕ → ℕ) (command : Command) (was now : Keeper
   served_none ledger.Keeper sink applies office stands =
       gave_doubt (served next command office) office now book sink
       (either_way (λ t. done next t command) was.tables now.tables office.tables stands.tables applies.tables)
-  served_none ledger.Memory sink applies =
-      gave_unmade (λ office. served next command office ∷ []) was now book book sink applies.tables
+  served_none ledger.Memory sink applies office stands =
+      gave_unmade (λ office. served next command office ∷ []) was now book book sink applies.tables office stands
 
   -- whether it was answered by an order
-  pub order_served : (answer : Answer) → Applies (λ t. done next t command) (Ok answer) was now → (order : Bool) → order ≡ is_order answer
-      → (office : Office) → StandsAs was book office → order ≡ is_order (done next office.tables command).answer
+  pub order_served : (answer : Answer) → Applies (λ t. done next t command) (Ok answer) was now → (order : Bool) → order ≡ holds_order answer
+      → (office : Office) → StandsAs was book office → order ≡ holds_order (done next office.tables command).answer
   order_served answer applies order is office stands =
       let applied = applied_ok (λ t. done next t command) answer was.tables now.tables office.tables stands.tables applies.tables in
-      is ∙ ap is_order applied.0
+      is ∙ ap holds_order applied.0
 
 -- The payments up to a place were made, and the others of the sheet are still to be made.
 pub record PaidTo (next : List ℕ → ℕ → ℕ) (sheet : Sheet) (i : ℕ) (office : Office) (old : SinkView) (keeper : KeeperView)
@@ -59,13 +59,16 @@ abbrev pub PaysTo : (List ℕ → ℕ → ℕ) → Sheet → ℕ → (keeper : K
 PaysTo next sheet i keeper book old keeper' book' new =
     (office : Office) → StandsAs keeper book office → PaidTo next sheet i office old keeper' book' new
 
+all_of : (n : ℕ) → n - 0 ≡ n
+all_of n = omega arith
+
 -- none was made yet
 pub none_paid : (next : List ℕ → ℕ → ℕ) (sheet : Sheet) (keeper : KeeperView) (book : Book) (sink : SinkView)
     → PaysTo next sheet 0 keeper book sink keeper book sink
 none_paid next sheet keeper book sink office stands = record {
   given = [];
-  rest = refl;
-  gave = (gave_none office sink keeper book stands).by;
+  rest = ap (λ n. payments next sheet 1 n office) (sym (all_of sheet.tokens));
+  gave = none_given office sink keeper book stands;
 }
 
 -- all were made
@@ -76,7 +79,7 @@ all_paid next sheet i keeper book old keeper' book' new all pays office stands =
     let none : sheet.tokens - i ≡ 0 = omega (arith, all) in
     record {
       given = paid.given;
-      open = [];
+      left = [];
       split = paid.rest ∙ ap (λ n. paid.given ++ payments next sheet (i + 1) n (behind office paid.given)) none;
       by = paid.gave;
     }
@@ -85,7 +88,7 @@ module _ (next : List ℕ → ℕ → ℕ) (sheet : Sheet) (i : ℕ) (keeper : K
     (keeper'' : KeeperView) (book'' : Book) (new : SinkView) (more : i < sheet.tokens) (pays : PaysTo next sheet i keeper book old keeper' book' mid) where
   -- the payments from here on
   from_here : (office : Office) → payments next sheet (i + 1) (sheet.tokens - i) office
-      ≡ (if is_order (done next office.tables (payment sheet (i + 1))).answer
+      ≡ (if holds_order (done next office.tables (payment sheet (i + 1))).answer
       then served next (payment sheet (i + 1)) office ∷ payments next sheet (i + 1 + 1) (sheet.tokens - (i + 1)) (served next (payment sheet (i + 1)) office).office
       else served next (payment sheet (i + 1)) office ∷ [])
   from_here office =
@@ -115,7 +118,7 @@ module _ (next : List ℕ → ℕ → ℕ) (sheet : Sheet) (i : ℕ) (keeper : K
 
   -- it was answered by an order, and the next one may be made
   pub one_paid : Gives (λ o. served next (payment sheet (i + 1)) o ∷ []) (Ok tt) keeper' book' mid keeper'' book'' new
-      → ((office : Office) → StandsAs keeper' book' office → true ≡ is_order (done next office.tables (payment sheet (i + 1))).answer)
+      → ((office : Office) → StandsAs keeper' book' office → true ≡ holds_order (done next office.tables (payment sheet (i + 1))).answer)
       → PaysTo next sheet (i + 1) keeper book old keeper'' book'' new
   one_paid gives order office stands =
       let paid = pays office stands in
@@ -134,7 +137,7 @@ module _ (next : List ℕ → ℕ → ℕ) (sheet : Sheet) (i : ℕ) (keeper : K
 
   -- it was refused, and the line ends
   pub one_refused : Gives (λ o. served next (payment sheet (i + 1)) o ∷ []) (Ok tt) keeper' book' mid keeper'' book'' new
-      → ((office : Office) → StandsAs keeper' book' office → false ≡ is_order (done next office.tables (payment sheet (i + 1))).answer)
+      → ((office : Office) → StandsAs keeper' book' office → false ≡ holds_order (done next office.tables (payment sheet (i + 1))).answer)
       → Gives (payments next sheet 1 sheet.tokens) (Ok tt) keeper book old keeper'' book'' new
   one_refused gives order office stands =
       let paid = pays office stands in
@@ -147,32 +150,24 @@ module _ (next : List ℕ → ℕ → ℕ) (sheet : Sheet) (i : ℕ) (keeper : K
       subst (λ (l : List Answered). Gave l (Ok tt) office old keeper'' book'' new) (sym is) (further office stands (Ok tt) gives)
 
   -- it failed
-  pub one_failed : (failed : LineFault) → Gives (λ o. served next (payment sheet (i + 1)) o ∷ []) (Err failed) keeper' book' mid keeper'' book'' new
-      → Gives (payments next sheet 1 sheet.tokens) (Err failed) keeper book old keeper'' book'' new
-  one_failed failed gives office stands =
-      either (is_order (done next here.tables (payment sheet (i + 1))).answer) refl
-    where
-      abbrev paid : PaidTo next sheet i office old keeper' book' mid
-      paid = pays office stands
+  module _ (failed : LineFault) (gives : Gives (λ o. served next (payment sheet (i + 1)) o ∷ []) (Err failed) keeper' book' mid keeper'' book'' new)
+      (office : Office) (stands : StandsAs keeper book office) where
+    with_rest : (rest : List Answered) → payments next sheet (i + 1) (sheet.tokens - i) (here office stands) ≡ one office stands ∷ rest
+        → Gave (payments next sheet 1 sheet.tokens office) (Err failed) office old keeper'' book'' new
+    with_rest rest is =
+        let front = (paid office stands).given ++ one office stands ∷ [] in
+        subst (λ (l : List Answered). Gave l (Err failed) office old keeper'' book'' new)
+        (sym (split office stands (payments next sheet 1 sheet.tokens office) rest refl is))
+        (gave_front front rest failed office old keeper'' book'' new (further office stands (Err failed) gives))
 
-      abbrev here : Office
-      here = behind office paid.given
+    either : (order : Bool) → holds_order (done next (here office stands).tables (payment sheet (i + 1))).answer ≡ order
+        → Gave (payments next sheet 1 sheet.tokens office) (Err failed) office old keeper'' book'' new
+    either true is =
+        let rest = payments next sheet (i + 1 + 1) (sheet.tokens - (i + 1)) (one office stands).office in
+        with_rest rest (from_here (here office stands) ∙ ap (λ b. cond b (one office stands ∷ rest) (one office stands ∷ [])) is)
+    either false is =
+        let rest = payments next sheet (i + 1 + 1) (sheet.tokens - (i + 1)) (one office stands).office in
+        with_rest [] (from_here (here office stands) ∙ ap (λ b. cond b (one office stands ∷ rest) (one office stands ∷ [])) is)
 
-      abbrev one : Answered
-      one = served next (payment sheet (i + 1)) here
-
-      with_rest : (rest : List Answered) → payments next sheet (i + 1) (sheet.tokens - i) here ≡ one ∷ rest
-          → Gave (payments next sheet 1 sheet.tokens office) (Err failed) office old keeper'' book'' new
-      with_rest rest is =
-          subst (λ (l : List Answered). Gave l (Err failed) office old keeper'' book'' new)
-          (sym (split office stands (payments next sheet 1 sheet.tokens office) rest refl is))
-          (gave_front (paid.given ++ one ∷ []) rest failed office old keeper'' book'' new (further office stands (Err failed) gives))
-
-      either : (order : Bool) → is_order (done next here.tables (payment sheet (i + 1))).answer ≡ order
-          → Gave (payments next sheet 1 sheet.tokens office) (Err failed) office old keeper'' book'' new
-      either true is =
-          let rest = payments next sheet (i + 1 + 1) (sheet.tokens - (i + 1)) one.office in
-          with_rest rest (from_here here ∙ ap (λ b. cond b (one ∷ rest) (one ∷ [])) is)
-      either false is =
-          let rest = payments next sheet (i + 1 + 1) (sheet.tokens - (i + 1)) one.office in
-          with_rest [] (from_here here ∙ ap (λ b. cond b (one ∷ rest) (one ∷ [])) is)
+    pub one_failed : Gave (payments next sheet 1 sheet.tokens office) (Err failed) office old keeper'' book'' new
+    one_failed = either (holds_order (done next (here office stands).tables (payment sheet (i + 1))).answer) refl

@@ -49,16 +49,16 @@ abbrev pub payment : Sheet → ℕ → Command
 payment sheet place = command_is.Pay (id_of sheet.sheet place) sheet.serial sheet.amount
 
 -- Whether an answer is an order, a new one or the kept one. Every other answer to a payment refuses it.
-abbrev pub is_order : Answer → Bool
-is_order (answer_is.Order order form) = true
-is_order _ = false
+abbrev pub holds_order : Answer → Bool
+holds_order (answer_is.Order order form) = true
+holds_order _ = false
 
 -- The payments for the tokens of a sheet from a place on, so many of them: one after the other, up to the first one that is refused.
 abbrev pub payments : (List ℕ → ℕ → ℕ) → Sheet → (place left : ℕ) → Office → List Answered
 payments next sheet place zero office = []
 payments next sheet place (suc left) office =
     let one = served next (payment sheet place) office in
-    if is_order (done next office.tables (payment sheet place)).answer
+    if holds_order (done next office.tables (payment sheet place)).answer
     then one ∷ payments next sheet (place + 1) left one.office
     else one ∷ []
 

@@ -6,7 +6,7 @@ ghost use Rattle.line_loop.specs.Handling.{HasCauses};
 ghost use Rattle.line_output.specs.Written.{Wrote};
 ghost use Rattle.sheet_book.specs.Books.{StandsFor};
 ghost use Rattle.sheet_text.specs.Asks.{ask_in, SheetIsInRange, SoldIsInRange};
-ghost use Rattle.sheet_loop.specs.Office.{Office, answers_of_ask, answers_of_line, answers_of_reading, is_order, kept, last_word, line_of, payments, served};
+ghost use Rattle.sheet_loop.specs.Office.{Office, answers_of_ask, answers_of_line, answers_of_reading, holds_order, kept, last_word, line_of, payments, served};
 ghost use Rattle.sheet_loop.specs.Served.{StandsAs, Gives, fault_of, plain};
 
 use bench_run::{Bench, trimmed};
@@ -38,16 +38,22 @@ fn of_ledger(fault: LedgerFault) -> LineFault
     }
 }
 
+// Whether an answer is an order.
+fn is_order(answer: &Answer) -> bool
+    ensures { result ≡ holds_order answer.now }
+{
+    matches!(answer, Answer::Order(_, _))
+}
+
 impl<M: Mixer> Agency<M> {
     // An agency to which nothing was reported.
-    pub(crate) fn new(alloc: Global) -> Result<Agency<M>, Memory>
-        ensures { IfOk result (λ agency. StandsFor agency.book []) }
+    pub(crate) fn new(alloc: Global) -> Agency<M>
+        ensures { StandsFor result.book [] }
     {
-        let book = Book::new(alloc)?;
-        Ok(Agency {
+        Agency {
             bench: Bench::start(),
-            book,
-        })
+            book: Book::new(alloc).unwrap(),
+        }
     }
 
     // One command to the ledger, and its answer. Answers whether that is an order.
@@ -64,14 +70,15 @@ impl<M: Mixer> Agency<M> {
         ensures gives { Gives (λ office. served M.next command.now office ∷ []) (plain result)
             (D.view keeper.old) self.old.book (K.view sink.old) (D.view keeper.new) self.new.book (K.view sink.new) }
         ensures order { IfOk result (λ order. (office : Office) → StandsAs (D.view keeper.old) self.old.book office →
-            order ≡ is_order (done M.next office.tables command.now).answer) }
+            order ≡ holds_order (done M.next office.tables command.now).answer) }
     {
         let answer = match self.bench.command(alloc, keeper, command) {
             Ok(answer) => answer,
             Err(fault) => return Err(of_ledger(fault)),
         };
+        let order = is_order(&answer);
         match write_answer(sink, &answer) {
-            Ok(()) => Ok(matches!(answer, Answer::Order(_, _))),
+            Ok(()) => Ok(order),
             Err(WriteFault) => Err(LineFault::Write),
         }
     }
@@ -136,11 +143,14 @@ impl<M: Mixer> Agency<M> {
             (D.view keeper.old) self.old.book (K.view sink.old) (D.view keeper.new) self.new.book (K.view sink.new) }
     {
         let id = id_of(&sold.sheet, sold.place);
-        match self.bench.command(alloc, keeper, &Command::Order { id }) {
-            Ok(Answer::Order(_, _)) => self.keep(sold, sink),
-            Ok(refusal) => as_line_fault(write_answer(sink, &refusal)),
-            Err(fault) => Err(of_ledger(fault)),
+        let answer = match self.bench.command(alloc, keeper, &Command::Order { id }) {
+            Ok(answer) => answer,
+            Err(fault) => return Err(of_ledger(fault)),
+        };
+        if is_order(&answer) {
+            return self.keep(sold, sink);
         }
+        as_line_fault(write_answer(sink, &answer))
     }
 
     // The text of a line that begins with `{`.
@@ -159,8 +169,12 @@ impl<M: Mixer> Agency<M> {
         match read(alloc, text) {
             Ok(Ask::Sheet(sheet)) => self.sell(alloc, &sheet, keeper, sink),
             Ok(Ask::Sold(sold)) => self.report(alloc, &sold, keeper, sink),
-            Err(TextFault::Memory) => Err(LineFault::Memory),
-            Err(fault) => as_line_fault(write_fault(sink, &fault)),
+            Err(fault) => {
+                if fault == TextFault::Memory {
+                    return Err(LineFault::Memory);
+                }
+                as_line_fault(write_fault(sink, &fault))
+            }
         }
     }
 }

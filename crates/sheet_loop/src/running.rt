@@ -41,8 +41,6 @@ pub fn run_sheets<M: Mixer, S: Source, K: Sink, D: Keeper, F: Flash>(
         (outside (S.view source.old) (K.view sink.old) (D.view keeper.old) (F.view flash.old))
         (outside (S.view source.new) (K.view sink.new) (D.view keeper.new) (F.view flash.new)) }
 {
-    match Agency::<M>::new(alloc) {
-        Ok(mut agency) => run_lines(alloc, &mut agency, source, sink, keeper, flash),
-        Err(_) => Status::Memory,
-    }
+    let mut agency = Agency::<M>::new(alloc);
+    run_lines(alloc, &mut agency, source, sink, keeper, flash)
 }
