@@ -3,3 +3,5 @@ pub mod AuditLemmas
 pub mod KeptLemmas
 pub mod Once
 pub mod Listed
+pub mod ChosenLemmas
+pub mod ByValueLemmas
