@@ -1,5 +1,5 @@
 pub mod Ranges
-pub mod AuditLemmas
+pub mod Fours
 pub mod KeptLemmas
 pub mod Once
 pub mod Listed

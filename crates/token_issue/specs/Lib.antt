@@ -1,4 +1,3 @@
-pub mod Audit
 pub mod Lists
 pub mod Kept
 pub mod Knot

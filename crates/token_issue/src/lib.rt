@@ -6,26 +6,22 @@
 //! count is clean where its token stands once among those up to 4,095 and up to its own. The token that is issued is
 //! read from that list.
 //!
-//! Whether issued tokens are right is told of four tokens of any chains by `audit4`, which keeps no list, and of one
-//! device's tokens by `DeviceTokens`, which reckons a list for each value and asks it for all tokens of that value.
+//! Whether issued tokens are right is told of one device's tokens by `DeviceTokens`, which reckons a list for each value
+//! and asks it for all tokens of that value.
 #![tactic(auto)]
 
-mod auditing;
 mod chosen;
 mod device_tokens;
 mod four_lists;
 mod issuing;
-mod job;
 mod listing;
 mod searching;
 mod table_key;
 mod tables;
 
-pub use auditing::audit4;
 pub use chosen::Chosen;
 pub use device_tokens::DeviceTokens;
 pub use issuing::{IssueFault, clean, next_count, next_token};
-pub use job::Job;
 pub use table_key::TableKey;
 pub use tables::Tables;
 

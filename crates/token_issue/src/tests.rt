@@ -1,4 +1,3 @@
-ghost use Rattle.std.specs.Prelude.{◌≡◌, replicate};
 ghost use Rattle.token_issue.specs.Knot.{knot_next, knot_below};
 
 use super::*;
@@ -120,36 +119,6 @@ fn nine_keys_twice_over(rt: HostRuntime) -> Result<(), Fail> {
             );
         }
     }
-    Ok(())
-}
-
-/// A job of the chain with a token of two counts, for the value 7.
-fn job(count: u16, token: u32) -> Job
-    ensures { result ≡ record { key = replicate 16 0; start = 123456789; count = count; value = 7; token = token } }
-{
-    Job {
-        key: ZEROS,
-        start: START,
-        count,
-        value: 7,
-        token,
-    }
-}
-
-#[test]
-fn four_issued_tokens(rt: HostRuntime) -> Result<(), Fail> {
-    let jobs = [
-        // The token of two counts.
-        job(2, 123_470_796),
-        job(4, 123_484_796),
-        // The digits of another value.
-        job(4, 123_484_794),
-        job(4096, 152_128_796),
-    ];
-    assert_eq!(rt;
-        audit4::<Knot>(rt.alloc(), &jobs),
-        Ok([false, true, false, true])
-    );
     Ok(())
 }
 

@@ -2,7 +2,7 @@ use Rattle.std.proofs.Common.{ℕ, List, [], ◌∷◌, get_or, sym, ap, ◌∙�
 use Rattle.std.specs.Simd.Lanes.{zip2}
 use Rattle.token_chain.proofs.Chain.{code_from_none, code_from_more, steps_below}
 use Rattle.token_issue.proofs.Listed.{values_none}
-use Rattle.token_issue.proofs.AuditLemmas.{four_same, four_below}
+use Rattle.token_issue.proofs.Fours.{four_same, four_below}
 use Rattle.token_issue.proofs.ByValueLemmas.{list_step}
 use Rattle.token_issue.proofs.four_lists.four_lists.Goals as goal
 
