@@ -30,8 +30,10 @@ proved_main() {
 proved_invariant() { cat >"$work/crates/$crate/proofs/main/Invariants.antt"; }
 proved_answer() { cat >"$work/crates/$crate/proofs/main/Answers.antt"; }
 
+# Flags for the build, of which there are none at first.
+flags=()
 build_proved() {
-    (cd "$work/crates/$crate" && rt run >"$work/build.log" 2>&1) || { tail -20 "$work/build.log" >&2; exit 1; }
+    (cd "$work/crates/$crate" && rt run "${flags[@]}" >"$work/build.log" 2>&1) || { tail -20 "$work/build.log" >&2; exit 1; }
 }
 build_plain() { rustc -O --edition 2024 -A dead_code -o "$work/plain" "$work/plain.rs"; }
 

@@ -1,4 +1,3 @@
 pub mod Knot
 pub mod Audit
 pub mod AuditText
-pub mod Jobs

@@ -1,91 +1,69 @@
 // The shop's tables are audited: every kept token is checked again.
-ghost use Rattle.std.specs.Prelude.{◌≡◌, ◌≤◌, ◌+◌, ◌-◌, ◌^◌, ◌++◌, min, length, map, take, All, OnOk, IfOk, IfSome};
-ghost use Rattle.token_issue.specs.Audit.{JobIsInRange};
+ghost use Rattle.std.specs.Prelude.{◌≡◌, ◌<◌, ◌+◌, ◌-◌, ◌^◌, ◌++◌, min, length, All, OnOk, IfOk, IfSome};
 ghost use Rattle.ledger_spec.specs.Tables.{Tables, RowIsInRange, OrderIsInRange, Kept};
 ghost use Rattle.ledger_spec.specs.Sorted.{orders_for, all_rows};
-ghost use Rattle.loan_ledger.specs.Jobs.{job_of};
-ghost use Rattle.loan_ledger.specs.Audit.{is_right, wrong_among, order_count, findings_of, audited, Audits};
+ghost use Rattle.loan_ledger.specs.Audit.{wrong_among, order_count, findings_of, audited, Audits};
 
 use crate::enrolling::fault_of;
 use crate::findings::Audit;
 use ledger_keeper::Keeper;
 use ledger_spec::{LedgerFault, Name, Order, Row};
-use paygo_spec::Memory;
+use paygo_spec::{GREAT, LAST, Memory};
 use std::alloc::Global;
 use token_chain::Mixer;
-use token_issue::{Job, audit4};
+use token_issue::DeviceTokens;
 
-// The job of an order.
-fn job_for(row: &Row, order: &Order) -> Job
-    requires row { RowIsInRange row.now }
-    requires order { OrderIsInRange order.now }
-    ensures job { result ≡ job_of row.now order.now }
-    ensures in_range { JobIsInRange result }
+// How many counts are looked at to audit these orders: 4,096, or 16,384 where one of them has a count above 4,095.
+fn counts_for(orders: &[Order]) -> u16
+    requires { All OrderIsInRange orders.now }
+    ensures whole { LAST < result }
+    ensures each { All (λ order. order.count < result) orders.now }
 {
-    Job {
-        key: row.key,
-        start: row.start,
-        count: order.count,
-        value: order.value,
-        token: order.token,
+    if orders.iter().all(|order| order.count <= LAST) {
+        LAST + 1
+    } else {
+        GREAT + 1
     }
 }
 
-// Four jobs: those of a group of up to four orders, and copies of its last one where there are fewer.
-fn jobs_for(row: &Row, group: &[Order]) -> [Job; 4]
-    requires row { RowIsInRange row.now }
-    requires orders { All OrderIsInRange group.now }
-    requires some { 1 ≤ length group.now }
-    requires most { length group.now ≤ 4 }
-    ensures jobs { take (length group.now) result ≡ map (job_of row.now) group.now }
-    ensures in_range { All JobIsInRange result }
+// The values of these orders, each once, if there is memory.
+fn values_of(alloc: Global, orders: &[Order]) -> Result<Vec<u16>, Memory>
+    requires { All OrderIsInRange orders.now }
+    ensures { IfOk result (λ values. All (λ value. value < 1000) values.items) }
 {
-    let last = group.len() - 1;
-    [
-        job_for(row, &group[0]),
-        job_for(row, &group[last.min(1)]),
-        job_for(row, &group[last.min(2)]),
-        job_for(row, &group[last.min(3)]),
-    ]
-}
-
-// Adds the ids of those orders of a group that weren't found right, if there is memory.
-fn add_wrong<M: Mixer>(
-    row: &Row,
-    group: &[Order],
-    right: &[bool; 4],
-    wrong: &mut Vec<Name>,
-) -> Result<(), Memory>
-    requires most { length group.now ≤ 4 }
-    requires right { take (length group.now) right.now ≡ map (is_right M.next row.now) group.now }
-    ensures { OnOk result (wrong.new.items ≡ wrong.old.items ++ wrong_among M.next row.now group.now) }
-{
-    for i in 0..group.len() {
-        if !right[i] && wrong.push(group[i].id).is_err() {
+    let mut values = Vec::new(alloc);
+    'orders: for order in orders {
+        if !values.contains(&order.value) && values.push(order.value).is_err() {
             return Err(Memory);
         }
+    }
+    Ok(values)
+}
+
+// Reckons the tokens of these values, four values at a time, if there is memory. Up to three values are left over at the
+// end: the tokens of each are reckoned once it is asked for.
+fn prepare_all<M: Mixer>(
+    alloc: Global,
+    tokens: &mut DeviceTokens<M>,
+    values: &[u16],
+) -> Result<(), Memory>
+    requires { All (λ value. value < 1000) values.now }
+    ensures { tokens.new ≡ tokens.old }
+{
+    'fours: for four in 0..values.len() / 4 {
+        let i = 4 * four;
+        tokens.prepare(
+            alloc,
+            values[i],
+            values[i + 1],
+            values[i + 2],
+            values[i + 3],
+        )?;
     }
     Ok(())
 }
 
-// Audits a group of up to four orders of a row.
-fn audit_group<M: Mixer>(
-    alloc: Global,
-    row: &Row,
-    group: &[Order],
-    wrong: &mut Vec<Name>,
-) -> Result<(), Memory>
-    requires row { RowIsInRange row.now }
-    requires orders { All OrderIsInRange group.now }
-    requires some { 1 ≤ length group.now }
-    requires most { length group.now ≤ 4 }
-    ensures { OnOk result (wrong.new.items ≡ wrong.old.items ++ wrong_among M.next row.now group.now) }
-{
-    let right = audit4::<M>(alloc, &jobs_for(row, group))?;
-    add_wrong::<M>(row, group, &right, wrong)
-}
-
-// Audits orders of a row, four at a time.
+// Audits orders of a row: adds the ids of the wrong ones, in the order in which they come.
 fn audit_orders<M: Mixer>(
     alloc: Global,
     row: &Row,
@@ -96,11 +74,14 @@ fn audit_orders<M: Mixer>(
     requires orders { All OrderIsInRange orders.now }
     ensures { OnOk result (wrong.new.items ≡ wrong.old.items ++ wrong_among M.next row.now orders.now) }
 {
-    let mut rest = orders;
-    'groups: while !rest.is_empty() {
-        let (group, later) = rest.split_at(rest.len().min(4));
-        audit_group::<M>(alloc, row, group, wrong)?;
-        rest = later;
+    let mut tokens = DeviceTokens::<M>::new(alloc, &row.key, row.start, counts_for(orders))?;
+    let values = values_of(alloc, orders)?;
+    prepare_all(alloc, &mut tokens, &values)?;
+    'orders: for order in orders {
+        let right = tokens.is_right(alloc, order.count, order.value, order.token)?;
+        if !right && wrong.push(order.id).is_err() {
+            return Err(Memory);
+        }
     }
     Ok(())
 }
@@ -135,14 +116,17 @@ fn audit_row<M: Mixer, D: Keeper>(
 /// count and value on the chain of its row, and no other count, from 0 to the greater of 4,095 and this one, has that
 /// token. What is found is `audited`, whichever keeper holds the tables, and no table changes.
 ///
-/// The keeper is called for its rows, and then for the orders of each row, by serial. Each group of four orders of a
-/// row takes one walk of 4,096 counts up their chains, or of more where one of them has a greater count.
+/// The keeper is called for its rows, and then for the orders of each row, by serial. Each value that a row's orders
+/// have takes one walk of 4,096 counts up its chain, which serves all orders of that value, or of 16,384 where an order
+/// of the row has a count above 4,095. The chains of four values are walked side by side. The tokens of one row's values
+/// are in memory at a time.
 ///
 /// # Errors
 ///
 /// `Keeper` where the keeper failed, and the fault is counted, once. `Memory` where there is none for the rows, for the
-/// orders of a row or for the ids of the wrong ones. The tables are as before in both cases. Where an audit is
-/// answered, and where there is no memory, the keeper's count of faults stays: no fault of it is passed over.
+/// orders of a row, for the tokens of their values or for the ids of the wrong ones. The tables are as before in both
+/// cases. Where an audit is answered, and where there is no memory, the keeper's count of faults stays: no fault of it
+/// is passed over.
 pub fn audit<M: Mixer, D: Keeper>(alloc: Global, keeper: &mut D) -> Result<Audit, LedgerFault>
     ensures audits { Audits result (D.view keeper.old) (D.view keeper.new) }
     ensures found { IfOk result (λ audit. IfSome (D.view keeper.old).tables (λ t.

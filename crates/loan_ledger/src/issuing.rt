@@ -1,5 +1,6 @@
 // A token is issued.
 ghost use Rattle.std.specs.Prelude.{◌≡◌, ◌<◌, ◌≤◌, ◌^◌, None, Some, Ok, Err, IfOk, IfSome, if◌then◌else◌};
+ghost use Rattle.paygo_spec.specs.Chain.{token_at};
 ghost use Rattle.ledger_spec.specs.Issuing.{pick};
 ghost use Rattle.ledger_spec.specs.Tables.{row_of, order_of, RowIsInRange, OrderIsInRange, AskIsInRange};
 ghost use Rattle.ledger_spec.specs.Ledger.{issue_for, offered, issued, issued_at, asked, asked_of, is_retry, order_at, row_at, AnswerIsInRange};
@@ -12,25 +13,22 @@ use ledger_keeper::Keeper;
 use ledger_spec::{Answer, Ask, Issue, LedgerFault, Name, Order, Row};
 use paygo_spec::Form;
 use std::alloc::Global;
-use token_chain::{Mixer, token};
-use token_issue::{IssueFault, Tables, next_count};
+use token_chain::Mixer;
+use token_issue::{Chosen, IssueFault, Tables, next_token};
 
-// The order of an issue at a count.
-fn order_for<M: Mixer>(id: &Name, ask: Ask, issue: &Issue, count: u16) -> Order
-    requires start { issue.now.row.start < 10 ^ 9 }
-    requires value { issue.now.value ≤ 999 }
-    requires count { count ≤ 16383 }
-    ensures order { result ≡ order_at M.next id.now ask issue.now count }
-    ensures below { result.token < 10 ^ 9 }
+// The order of an issue at a count, with its token.
+fn order_for<M: Mixer>(id: &Name, ask: Ask, issue: &Issue, chosen: Chosen) -> Order
+    requires token { chosen.token ≡ token_at (M.next issue.now.row.key) issue.now.row.start issue.now.value chosen.count }
+    ensures order { result ≡ order_at M.next id.now ask issue.now chosen.count }
 {
     Order {
         id: *id,
         serial: issue.row.serial,
         ask,
         kind: issue.kind,
-        count,
+        count: chosen.count,
         value: issue.value,
-        token: token::<M>(&issue.row.key, issue.row.start, count, issue.value),
+        token: chosen.token,
     }
 }
 
@@ -44,7 +42,7 @@ fn row_with(issue: &Issue, count: u16) -> Row
     }
 }
 
-// An issue is kept at a count.
+// An issue is kept at a count, with its token.
 fn keep<M: Mixer, D: Keeper>(
     alloc: Global,
     keeper: &mut D,
@@ -53,49 +51,54 @@ fn keep<M: Mixer, D: Keeper>(
     price: u64,
     row: &Row,
     issue: &Issue,
-    count: u16,
+    chosen: Chosen,
 ) -> Result<Answer, LedgerFault>
     requires price { IsPrice price }
     requires row { RowIsInRange row.now }
     requires ask { AskIsInRange ask }
     requires issue { issue_for price row.now ask ≡ Ok issue.now }
-    requires above { row.now.last < count }
-    requires within { count ≤ row.now.limit }
+    requires above { row.now.last < chosen.count }
+    requires within { chosen.count ≤ row.now.limit }
+    requires token { chosen.token ≡ token_at (M.next issue.now.row.key) issue.now.row.start issue.now.value chosen.count }
+    requires below { chosen.token < 10 ^ 9 }
     requires kept { IfSome (D.view keeper.old).tables (λ t. row_of t row.now.serial ≡ Some row.now) }
     requires new { IfSome (D.view keeper.old).tables (λ t. order_of t id.now ≡ None) }
-    ensures applied { Applies (λ t. issued_at M.next t id.now ask issue.now (Some count)) result
+    ensures applied { Applies (λ t. issued_at M.next t id.now ask issue.now (Some chosen.count)) result
         (D.view keeper.old) (D.view keeper.new) }
     ensures in_range { IfOk result AnswerIsInRange }
 {
-    let order = order_for::<M>(id, ask, issue, count);
-    let kept = row_with(issue, count);
+    let order = order_for::<M>(id, ask, issue, chosen);
+    let kept = row_with(issue, chosen.count);
     match keeper.add_order(alloc, &order, &kept) {
         Ok(()) => Ok(Answer::Order(order, issue.row.form)),
         Err(fault) => Err(fault_of(fault)),
     }
 }
 
-// The count at which an issue is kept: the least one that there is for it.
-fn count_for<M: Mixer>(
+// The count at which an issue is kept, and its token: the count is the least one that there is for it.
+fn chosen_for<M: Mixer>(
     alloc: Global,
     tables: &mut Tables<M>,
     price: u64,
     row: &Row,
     ask: Ask,
     issue: &Issue,
-) -> Result<u16, IssueFault>
+) -> Result<Chosen, IssueFault>
     requires price { IsPrice price }
     requires row { RowIsInRange row.now }
     requires ask { AskIsInRange ask }
     requires issue { issue_for price row.now ask ≡ Ok issue.now }
-    ensures count { IfOk result (λ count. pick (M.next issue.now.row.key) issue.now.row.start issue.now.row.limit
-        issue.now.row.last issue.now.kind issue.now.value ≡ Some count) }
-    ensures above { IfOk result (λ count. row.now.last < count) }
-    ensures within { IfOk result (λ count. count ≤ row.now.limit) }
+    ensures count { IfOk result (λ chosen. pick (M.next issue.now.row.key) issue.now.row.start issue.now.row.limit
+        issue.now.row.last issue.now.kind issue.now.value ≡ Some chosen.count) }
+    ensures above { IfOk result (λ chosen. row.now.last < chosen.count) }
+    ensures within { IfOk result (λ chosen. chosen.count ≤ row.now.limit) }
+    ensures token { IfOk result (λ chosen. chosen.token
+        ≡ token_at (M.next issue.now.row.key) issue.now.row.start issue.now.value chosen.count) }
+    ensures below { IfOk result (λ chosen. chosen.token < 10 ^ 9) }
     ensures none { result ≡ Err IssueFault.NoCount → pick (M.next issue.now.row.key) issue.now.row.start
         issue.now.row.limit issue.now.row.last issue.now.kind issue.now.value ≡ None }
 {
-    match next_count(
+    match next_token(
         alloc,
         tables,
         &issue.row.key,
@@ -105,7 +108,7 @@ fn count_for<M: Mixer>(
         issue.kind,
         issue.value,
     ) {
-        Ok(count) => Ok(count),
+        Ok(chosen) => Ok(chosen),
         Err(fault) => Err(fault),
     }
 }
@@ -133,8 +136,8 @@ fn issue<M: Mixer, D: Keeper>(
         Ok(issue) => issue,
         Err(refusal) => return Ok(refusal),
     };
-    match count_for::<M>(alloc, tables, price, row, ask, &issue) {
-        Ok(count) => keep::<M, D>(alloc, keeper, id, ask, price, row, &issue, count),
+    match chosen_for::<M>(alloc, tables, price, row, ask, &issue) {
+        Ok(chosen) => keep::<M, D>(alloc, keeper, id, ask, price, row, &issue, chosen),
         Err(IssueFault::NoCount) => Ok(Answer::NoCount {
             last: issue.row.last,
         }),

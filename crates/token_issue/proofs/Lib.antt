@@ -1,5 +1,7 @@
 pub mod Ranges
-pub mod AuditLemmas
+pub mod Fours
 pub mod KeptLemmas
 pub mod Once
 pub mod Listed
+pub mod ChosenLemmas
+pub mod ByValueLemmas

@@ -1,8 +1,8 @@
 -- What the list of all tokens says of a count is what the definitions say of it.
-use Rattle.std.proofs.Common.{◌≡◌, ℕ, ◌+◌, ◌%◌, ◌<◌, ◌≤◌, Bool, ◌&&◌, ◌==◌, nat_lt, max, List, [], ◌∷◌, ◌++◌, length, take, get_or, refl, ap, ◌∙◌, arith}
+use Rattle.std.proofs.Common.{◌≡◌, ℕ, zero, suc, ◌+◌, ◌*◌, ◌/◌, ◌%◌, ◌^◌, ◌<◌, ◌≤◌, Bool, ◌&&◌, ◌==◌, nat_lt, max, List, [], ◌∷◌, ◌++◌, length, take, get_or, refl, ap, ◌∙◌, arith}
 use Rattle.std.specs.List.{count_by}
 use Rattle.std.proofs.lemmas.List.FromFn.{map-range_with_len_more, take-map-range_with_len, length-map-range_with_len, get_or-map-range_with_len}
-use Rattle.paygo_spec.specs.Chain.{token_base_of, first_code, token_from, token_at}
+use Rattle.paygo_spec.specs.Chain.{with_base, token_base_of, code_from, first_code, token_from, token_at}
 use Rattle.paygo_spec.specs.Least.{least}
 use Rattle.paygo_spec.proofs.Leasts.{least_same}
 use Rattle.ledger_spec.specs.declared.Kind.{Kind}
@@ -55,6 +55,26 @@ pub listed_clean : (next : ℕ → ℕ) (start value length n : ℕ) → n < len
 listed_clean next start value length n below long =
     once_is_clean (token_at next (first_code start value) 0) length n below long
     ∙ ap (λ (f : ℕ → ℕ). stands_alone f n (max 4095 n + 1)) (token_by_code next start value)
+
+-- the list of a call has the token of each of its counts
+pub listed_token : (next : ℕ → ℕ) (start value length n : ℕ) → n < length → get_or (tokens_from next (first_code start value) length) n 0 ≡ token_at next start value n
+listed_token next start value length n below =
+    value_at (token_at next (first_code start value) 0) n length below ∙ ap (λ (f : ℕ → ℕ). f n) (token_by_code next start value)
+
+code_below : (next : ℕ → ℕ) → ((code : ℕ) → next code < 10 ^ 9) → (first n : ℕ) → first < 10 ^ 9 → code_from next first n < 10 ^ 9
+unfolding code_from
+code_below next below first zero small = small
+code_below next below first (suc n) small = below (code_from next first n)
+
+with_base_small : (code b : ℕ) → code < 10 ^ 9 → b < 1000 → with_base code b < 10 ^ 9
+with_base_small code b small low = let parts : 1000 * (code / 1000) + code % 1000 ≡ code = omega arith in omega arith
+
+-- each token is below 10^9
+pub token_small : (next : ℕ → ℕ) → ((code : ℕ) → next code < 10 ^ 9) → (start value n : ℕ) → start < 10 ^ 9 → token_at next start value n < 10 ^ 9
+token_small next below start value n small =
+    let base : (start % 1000 + value) % 1000 < 1000 = omega arith in
+    let first : first_code start value < 10 ^ 9 = with_base_small start ((start % 1000 + value) % 1000) small base in
+    with_base_small (code_from next (first_code start value) n) ((start % 1000 + value) % 1000) (code_below next below (first_code start value) n first) base
 
 -- and a search by the list finds the count that is issued
 pub listed_pick : (next : ℕ → ℕ) (start limit last : ℕ) (kind : Kind) (value : ℕ) → 4095 ≤ limit

@@ -1,4 +1,4 @@
-pub mod Audit
 pub mod Lists
 pub mod Kept
 pub mod Knot
+pub mod ByValue

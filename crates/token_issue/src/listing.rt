@@ -16,7 +16,9 @@ pub(crate) fn tokens_of<M: Mixer>(alloc: Global, table: &TableKey) -> Result<Vec
         tokens.items ≡ tokens_from (M.next table.now.key) table.now.code table.now.counts) }
 {
     let mut walk = Walk::<M>::new(&table.key, table.code, 0);
-    let mut tokens = Vec::new(alloc);
+    let Ok(mut tokens) = Vec::with_capacity(alloc, usize::from(table.counts)) else {
+        return Err(Memory);
+    };
     'counts: for count in 0..table.counts {
         if tokens.push(walk.token()).is_err() {
             return Err(Memory);

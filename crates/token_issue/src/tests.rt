@@ -1,4 +1,3 @@
-ghost use Rattle.std.specs.Prelude.{◌≡◌, replicate};
 ghost use Rattle.token_issue.specs.Knot.{knot_next, knot_below};
 
 use super::*;
@@ -42,6 +41,14 @@ fn a_token_of_two_counts(rt: HostRuntime) -> Result<(), Fail> {
     }
     let next = next_count::<Knot>(alloc, &mut tables, &ZEROS, START, 0, 4095, Kind::Add, 7);
     assert_eq!(rt; next, Ok(4));
+    let chosen = next_token::<Knot>(alloc, &mut tables, &ZEROS, START, 0, 4095, Kind::Add, 7);
+    assert_eq!(rt;
+        chosen,
+        Ok(Chosen {
+            count: 4,
+            token: 123_484_796
+        })
+    );
     Ok(())
 }
 
@@ -115,33 +122,19 @@ fn nine_keys_twice_over(rt: HostRuntime) -> Result<(), Fail> {
     Ok(())
 }
 
-/// A job of the chain with a token of two counts, for the value 7.
-fn job(count: u16, token: u32) -> Job
-    ensures { result ≡ record { key = replicate 16 0; start = 123456789; count = count; value = 7; token = token } }
-{
-    Job {
-        key: ZEROS,
-        start: START,
-        count,
-        value: 7,
-        token,
-    }
-}
-
 #[test]
-fn four_issued_tokens(rt: HostRuntime) -> Result<(), Fail> {
-    let jobs = [
-        // The token of two counts.
-        job(2, 123_470_796),
-        job(4, 123_484_796),
-        // The digits of another value.
-        job(4, 123_484_794),
-        job(4096, 152_128_796),
-    ];
-    assert_eq!(rt;
-        audit4::<Knot>(rt.alloc(), &jobs),
-        Ok([false, true, false, true])
-    );
+fn the_tokens_of_a_device(rt: HostRuntime) -> Result<(), Fail> {
+    let alloc = rt.alloc();
+    let mut tokens = DeviceTokens::<Knot>::new(alloc, &ZEROS, START, 4097)?;
+    // The token of two counts.
+    assert_eq!(rt; tokens.is_right(alloc, 2, 7, 123_470_796), Ok(false));
+    assert_eq!(rt; tokens.is_right(alloc, 4, 7, 123_484_796), Ok(true));
+    // The digits of another value.
+    assert_eq!(rt; tokens.is_right(alloc, 4, 7, 123_484_794), Ok(false));
+    // The same list once more, and those of three other values.
+    tokens.prepare(alloc, 5, 6, 7, 8)?;
+    assert_eq!(rt; tokens.is_right(alloc, 4096, 7, 152_128_796), Ok(true));
+    assert_eq!(rt; tokens.is_right(alloc, 4, 5, 123_484_794), Ok(true));
     Ok(())
 }
 

@@ -45,21 +45,44 @@ fn row(rt: &impl Abort, serial: &[u8], paid: u64, last: u16) -> Row
     }
 }
 
+// Seven orders of one device, whose tokens say five values, as they came to be kept: id, count, value and token. The
+// second has a count that only a raised device takes. The fourth has the token of another value, and the seventh that of
+// another count.
+const VALUES: [(&[u8], u16, u16, u32); 7] = [
+    (b"a1", 2, 1, 123_470_790),
+    (b"b2", 4096, 2, 152_128_791),
+    (b"c3", 6, 3, 123_498_792),
+    (b"d4", 8, 4, 123_512_792),
+    (b"e5", 10, 5, 123_526_794),
+    (b"f6", 12, 1, 123_540_790),
+    (b"g7", 14, 5, 123_526_794),
+];
+
 // An order of seven units.
 fn sold(rt: &impl Abort, id: &[u8], row: &Row, count: u16, token: u32) -> Order
     requires { RowIsInRange row.now }
     ensures order { OrderIsInRange result }
     ensures serial { result.serial ≡ row.now.serial }
 {
+    sold_for(rt, id, row, count, 7, token)
+}
+
+// An order of so many units.
+fn sold_for(rt: &impl Abort, id: &[u8], row: &Row, count: u16, value: u16, token: u32) -> Order
+    requires { RowIsInRange row.now }
+    ensures order { OrderIsInRange result }
+    ensures serial { result.serial ≡ row.now.serial }
+{
     assert!(rt; 1 <= count && count <= 16_383);
+    assert!(rt; 1 <= value && value <= 999);
     assert!(rt; token < 1_000_000_000);
     Order {
         id: name(rt, id),
         serial: row.serial,
-        ask: Ask::Pay(350),
+        ask: Ask::Pay(50 * u64::from(value)),
         kind: Kind::Add,
         count,
-        value: 7,
+        value,
         token,
     }
 }
@@ -150,6 +173,19 @@ fn nine_orders_of_one_device(rt: HostRuntime) {
         hold_order(&rt, a, k, &row, &sold(&rt, id, &row, count, token));
     }
     check::<Stride<7>>(&rt, a, k, 1, 9, &[b"i1", b"g4", b"f5", b"a9"]);
+}
+
+#[test]
+fn orders_of_five_values(rt: HostRuntime) {
+    let a = rt.alloc();
+    let k = &mut MemKeeper::new(a);
+    let row = row(&rt, b"A1", 1050, 14);
+    hold_row(&rt, a, k, &row);
+    for (id, count, value, token) in VALUES {
+        let order = sold_for(&rt, id, &row, count, value, token);
+        hold_order(&rt, a, k, &row, &order);
+    }
+    check::<Stride<7>>(&rt, a, k, 1, 7, &[b"d4", b"g7"]);
 }
 
 // Gives a keeper two devices, in thirteen calls. Each has a wrong order, and one has a right one beside it.
