@@ -1,5 +1,5 @@
 -- The answers to a line, by what stands in it.
-use Rattle.std.proofs.Common.{◌≡◌, ◌≢◌, ℕ, ◌<◌, ◌≤◌, Bool, true, false, List, [], ◌∷◌, ◌++◌, length, get_or, Result, Ok, Err, if◌then◌else◌, refl, sym, ap, ◌∙◌, subst, arith}
+use Rattle.std.proofs.Common.{◌≡◌, ◌≢◌, ℕ, ◌<◌, ◌≤◌, true, false, List, [], ◌∷◌, ◌++◌, length, get_or, Result, Err, refl, sym, ap, ◌∙◌, arith}
 use Rattle.std.specs.Prelude.{◌==◌, codes, nat_lt}
 use Rattle.std.specs.Fmt.{decimal}
 use Rattle.std.proofs.lemmas.Bool.Decides.{nat_tests}
@@ -9,7 +9,7 @@ use Rattle.ledger_spec.specs.declared.TextFault.TheVariants as text_fault
 use Rattle.run_spec.specs.Meaning.{trimmed}
 use Rattle.sheet_text.specs.declared.asks.Ask.{Ask}
 use Rattle.sheet_text.specs.Asks.{ask_in}
-use Rattle.sheet_loop.specs.Office.{Office, Answered, answers_of_line, answers_of_reading, answers_of_text, says}
+use Rattle.sheet_loop.specs.Office.{Office, answers_of_line, answers_of_reading, answers_of_text, says}
 
 -- a line of at most 4,096 bytes
 short : (next : List ℕ → ℕ → ℕ) (line : List ℕ) (office : Office) → length line ≤ 4096 → answers_of_line next line office ≡ answers_of_text next (trimmed line) office
