@@ -1,7 +1,6 @@
 -- What the last word counts: whatever order the reports come in, and each token once.
-use Rattle.std.proofs.Common.{◌≡◌, ◌⊎◌, inl, inr, ⊎_elim, ◌↔◌, ℕ, zero, suc, ◌+◌, ◌≤◌, Bool, true, false, List, [], ◌∷◌, ◌++◌, length, Option, Some, None, Result, Ok, Err, if◌then◌else◌, refl, sym, ap, ◌∙◌, subst, arith, append_assoc, cond}
-use Rattle.std.specs.Prelude.{◌==◌, codes, nat_lt, IsSome, is_some}
-use Rattle.std.specs.Fmt.{decimal}
+use Rattle.std.proofs.Common.{◌≡◌, ◌⊎◌, inl, inr, ⊎_elim, ℕ, zero, suc, ◌+◌, ◌≤◌, Bool, true, false, List, [], ◌∷◌, ◌++◌, length, Option, Some, None, Result, Ok, Err, if◌then◌else◌, refl, sym, ap, ◌∙◌, subst, arith, cond}
+use Rattle.std.specs.Prelude.{◌==◌, nat_lt, IsSome, is_some}
 use Rattle.std.proofs.lemmas.Bool.Decides.{nat_tests}
 use Rattle.ledger_spec.specs.declared.Answer.{Answer}
 use Rattle.ledger_spec.specs.declared.Ask.{Ask as Bought}
@@ -10,14 +9,13 @@ use Rattle.ledger_spec.specs.declared.Issue.{Issue}
 use Rattle.ledger_spec.specs.declared.Order.{Order}
 use Rattle.ledger_spec.specs.declared.Row.{Row}
 use Rattle.ledger_spec.specs.declared.TextFault.{TextFault}
-use Rattle.ledger_spec.specs.AnswerText.{text_of_fault}
 use Rattle.ledger_spec.specs.Issuing.{pick}
 use Rattle.ledger_spec.specs.Ledger.{done, asked, asked_of, issued, issued_at, offered}
 use Rattle.ledger_spec.specs.Tables.{Tables, order_of, order_in, has_id, row_of}
 use Rattle.run_spec.specs.Meaning.{trimmed, is_ledger_text}
 use Rattle.sheet_book.specs.declared.places.Key.{Key}
 use Rattle.sheet_book.specs.declared.sales.Totals.{Totals}
-use Rattle.sheet_book.specs.Reports.{Report, IsAmong, IsReported, SameReports, keys_of, report_of, totals_of}
+use Rattle.sheet_book.specs.Reports.{Report, IsAmong, IsReported, keys_of, report_of, totals_of}
 use Rattle.sheet_book.proofs.Counting.{each_once, totals_same}
 use Rattle.sheet_text.specs.declared.asks.Ask.{Ask}
 use Rattle.sheet_text.specs.declared.asks.Ask.TheVariants as ask_is
@@ -27,7 +25,7 @@ use Rattle.sheet_text.specs.Asks.{ask_in}
 use Rattle.sheet_text.specs.Ids.{id_of}
 use Rattle.sheet_text.specs.Texts.{sales_text}
 use Rattle.sheet_text.proofs.IdLemmas.{id_tells}
-use Rattle.sheet_loop.specs.Office.{Office, Answered, answers_of_ask, answers_of_line, answers_of_reading, answers_of_text, answers_to, behind, holds_order, kept, payment, payments, reported, served}
+use Rattle.sheet_loop.specs.Office.{Office, Answered, answers_of_line, answers_of_reading, answers_of_text, answers_to, behind, holds_order, payment, payments, reported, served}
 use Rattle.sheet_loop.specs.Sheets.{opened}
 use Rattle.sheet_loop.specs.Counting.{CountsTokens, IsIn, Reports, ReportSales, SameLines, last_behind}
 use Rattle.sheet_loop.proofs.Giving.{behind-append}

@@ -2,14 +2,12 @@
 use Rattle.std.proofs.Common.{◌≡◌, ◌⊎◌, inl, inr, ⊎_elim, ℕ, List, [], ◌∷◌, ◌++◌, take, Some, Result, Ok, Err, refl, sym, ap, ◌∙◌, append_assoc, append-nil, subst}
 use Rattle.paygo_spec.specs.Streams.{SinkView}
 use Rattle.ledger_spec.specs.Keeper.{KeeperView}
-use Rattle.ledger_spec.specs.Tables.{Tables}
 use Rattle.paygo_ports.specs.declared.sink.WriteFault.{WriteFault}
 use Rattle.line_loop.specs.declared.handler.LineFault.{LineFault}
 use Rattle.line_loop.specs.declared.handler.LineFault.TheVariants as fault
 use Rattle.line_loop.specs.Handling.{of_line}
 use Rattle.line_output.specs.Written.{Wrote}
 use Rattle.sheet_book.specs.declared.book.Book.{Book}
-use Rattle.sheet_book.specs.Books.{StandsFor}
 use Rattle.sheet_loop.specs.Office.{Office, Answered, says, behind, line_of, text_of}
 use Rattle.sheet_loop.specs.Sheets.{LeavesWhole, LeavesCut, LeavesDoubt}
 use Rattle.sheet_loop.specs.Served.{StandsAs, GaveAll, GaveBy, Gave, Gives}

@@ -1,5 +1,5 @@
 -- The answers to a line, by what stands in it.
-use Rattle.std.proofs.Common.{◌≡◌, ◌≢◌, ℕ, ◌<◌, ◌≤◌, Bool, true, false, List, [], ◌∷◌, ◌++◌, length, get_or, Result, Ok, Err, if◌then◌else◌, refl, sym, ap, ◌∙◌, subst, arith}
+use Rattle.std.proofs.Common.{◌≡◌, ◌≢◌, ℕ, ◌<◌, ◌≤◌, true, false, List, [], ◌∷◌, ◌++◌, length, get_or, Result, Err, refl, sym, ap, ◌∙◌, arith}
 use Rattle.std.specs.Prelude.{◌==◌, codes, nat_lt}
 use Rattle.std.specs.Fmt.{decimal}
 use Rattle.std.proofs.lemmas.Bool.Decides.{nat_tests}
@@ -7,8 +7,9 @@ use Rattle.std.proofs.lemmas.List.{nil_from_length}
 use Rattle.ledger_spec.specs.declared.TextFault.{TextFault}
 use Rattle.ledger_spec.specs.declared.TextFault.TheVariants as text_fault
 use Rattle.run_spec.specs.Meaning.{trimmed}
+use Rattle.sheet_text.specs.declared.asks.Ask.{Ask}
 use Rattle.sheet_text.specs.Asks.{ask_in}
-use Rattle.sheet_loop.specs.Office.{Office, Answered, answers_of_line, answers_of_reading, answers_of_text, says}
+use Rattle.sheet_loop.specs.Office.{Office, answers_of_line, answers_of_reading, answers_of_text, says}
 
 -- a line of at most 4,096 bytes
 short : (next : List ℕ → ℕ → ℕ) (line : List ℕ) (office : Office) → length line ≤ 4096 → answers_of_line next line office ≡ answers_of_text next (trimmed line) office
@@ -51,6 +52,9 @@ other_said next line text office most is some first =
     short next line office most ∙ ap (λ l. answers_of_text next l office) (sym is) ∙ other_text next text office some first
 
 -- what was read of a line is what it asks for, but for want of memory
-pub read_fault : (text : List ℕ) (fault : TextFault) → fault ≢ text_fault.Memory → (Err fault ≢ Err text_fault.Memory → Err fault ≡ ask_in text)
+abbrev refusal : TextFault → Result Ask TextFault
+refusal fault = Err fault
+
+pub read_fault : (text : List ℕ) (fault : TextFault) → fault ≢ text_fault.Memory → (refusal fault ≢ Err text_fault.Memory → refusal fault ≡ ask_in text)
     → ask_in text ≡ Err fault
 read_fault text fault other value = sym (value (λ same. other (let is : fault ≡ text_fault.Memory = cc in is)))

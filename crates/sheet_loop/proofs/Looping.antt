@@ -1,5 +1,5 @@
 -- A whole run over the lines of agents: all lines that were handled are answered, and what became of the one that failed.
-use Rattle.std.proofs.Common.{◌≡◌, inl, inr, ℕ, true, List, [], ◌∷◌, ◌++◌, Some, Result, Ok, Err, refl, sym, ap, ◌∙◌, subst, append-nil}
+use Rattle.std.proofs.Common.{◌≡◌, inl, inr, ℕ, true, List, [], ◌∷◌, ◌++◌, Result, Ok, Err, refl, sym, ap, ◌∙◌, subst, append-nil}
 use Rattle.paygo_spec.specs.Streams.{SourceView, SinkView}
 use Rattle.run_spec.specs.declared.Status.{Status}
 use Rattle.run_spec.specs.declared.Status.TheVariants as status
@@ -8,14 +8,14 @@ use Rattle.paygo_ports.specs.declared.sink.WriteFault.{WriteFault}
 use Rattle.line_loop.specs.declared.handler.LineFault.{LineFault}
 use Rattle.line_loop.specs.declared.handler.LineFault.TheVariants as fault
 use Rattle.line_loop.specs.Handling.{Desk, Handled, FailsAt, Concludes, EndsWith, Loops}
-use Rattle.line_loop.specs.Outside.{Outside, outside}
+use Rattle.line_loop.specs.Outside.{outside}
 use Rattle.line_output.specs.Written.{Wrote}
 use Rattle.sheet_book.specs.declared.book.Book.{Book}
 use Rattle.sheet_book.specs.Books.{StandsFor}
 use Rattle.sheet_loop.specs.Office.{Office, Answered, answers_of_line, answers_to, answers_with_last, behind, last_word, line_of}
 use Rattle.sheet_loop.specs.Sheets.{opened, BreaksOff, LeavesWhole, DidSheets, RunsSheets}
 use Rattle.sheet_loop.specs.Served.{StandsAs, GaveAll, Gave, Gives}
-use Rattle.sheet_loop.proofs.Giving.{all_given, behind-append, cut_more, doubt_more, none_given, gave_more, whole_more, written_behind}
+use Rattle.sheet_loop.proofs.Giving.{all_given, cut_more, doubt_more, none_given, gave_more, whole_more, written_behind}
 
 module _ {H : Type 0} (next : List ℕ → ℕ → ℕ) (book : H → Book) where
   -- what becomes of a line

@@ -11,14 +11,13 @@ use Rattle.ledger_spec.specs.Keeper.{KeeperView}
 use Rattle.ledger_spec.specs.Ledger.{done}
 use Rattle.paygo_ports.specs.declared.sink.WriteFault.{WriteFault}
 use Rattle.line_loop.specs.declared.handler.LineFault.{LineFault}
-use Rattle.line_loop.specs.declared.handler.LineFault.TheVariants as fault
 use Rattle.line_loop.specs.Handling.{of_line}
 use Rattle.line_output.specs.Written.{Wrote}
 use Rattle.bench_run.proofs.Answering.{applied_ok, either_way}
 use Rattle.sheet_book.specs.declared.book.Book.{Book}
 use Rattle.sheet_text.specs.declared.asks.Sheet.{Sheet}
-use Rattle.sheet_loop.specs.Office.{Office, Answered, behind, holds_order, payment, payments, served, line_of}
-use Rattle.sheet_loop.specs.Served.{StandsAs, GaveAll, Gave, Gives, fault_of, plain}
+use Rattle.sheet_loop.specs.Office.{Office, Answered, behind, holds_order, payment, payments, served}
+use Rattle.sheet_loop.specs.Served.{StandsAs, GaveAll, Gave, Gives, fault_of}
 use Rattle.sheet_loop.proofs.Giving.{all_given, gave_front, gave_more, none_given, gave_one, gave_doubt, gave_unmade, behind-append}
 
 module _ (next : List ℕ → ℕ → ℕ) (command : Command) (was now : KeeperView) (book : Book) where

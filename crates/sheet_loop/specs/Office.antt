@@ -14,7 +14,6 @@ use Rattle.ledger_spec.specs.Ledger.{done}
 use Rattle.ledger_spec.specs.Tables.{Tables, order_of}
 use Rattle.run_spec.specs.Meaning.{trimmed}
 use Rattle.sheet_book.specs.declared.sales.Sale.{Sale}
-use Rattle.sheet_book.specs.declared.sales.Totals.{Totals}
 use Rattle.sheet_book.specs.Reports.{Report, key_at, report_of, sales_of, least, lesser, totals_of}
 use Rattle.sheet_text.specs.declared.asks.Ask.{Ask}
 use Rattle.sheet_text.specs.declared.asks.Ask.TheVariants as ask_is

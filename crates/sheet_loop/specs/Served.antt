@@ -1,5 +1,5 @@
 -- What becomes of one line of an agent: its answers, up to the one at which it fails.
-use Rattle.std.specs.Prelude.{◌≡◌, ℕ, List, [], ◌∷◌, ◌++◌, Some, Result, Ok, Err}
+use Rattle.std.specs.Prelude.{◌≡◌, List, [], ◌++◌, Some, Result, Ok, Err}
 use Rattle.paygo_spec.specs.Streams.{SinkView}
 use Rattle.ledger_spec.specs.Keeper.{KeeperView}
 use Rattle.ledger_spec.specs.declared.LedgerFault.{LedgerFault}

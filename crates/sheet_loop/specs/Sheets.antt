@@ -1,6 +1,6 @@
 -- What a run of `sheets` did: which answers were given, what stands in the tables then, and what was written.
 use Rattle.std.specs.Prelude.{◌≡◌, ℕ, ◌<◌, Bool, true, ◌⊎◌, List, [], ◌∷◌, ◌++◌, length, take, Some}
-use Rattle.paygo_spec.specs.Streams.{SourceView, SinkView}
+use Rattle.paygo_spec.specs.Streams.{SinkView}
 use Rattle.ledger_spec.specs.Keeper.{KeeperView}
 use Rattle.ledger_spec.specs.Tables.{Tables}
 use Rattle.run_spec.specs.declared.Status.{Status}

@@ -1,4 +1,4 @@
-use Rattle.std.proofs.Common.{◌≢◌, Result, Err, rules, subst, sym}
+use Rattle.std.proofs.Common.{◌≢◌, Result, rules, subst, sym}
 use Rattle.ledger_spec.specs.declared.TextFault.{TextFault}
 use Rattle.ledger_spec.specs.declared.TextFault.TheVariants as text_fault
 use Rattle.ledger_spec.specs.AnswerText.{text_of_fault}
