@@ -32,7 +32,7 @@ const MOST_CALLS: u32 = 4096;
 
 /// How many logs were judged, how many of them have a power cut, and how many were judged again with one answer changed,
 /// dropped or doubled; and of how many changed ones only the answers at the end are missing.
-#[derive(Clone, Copy, Drop)]
+#[derive(Clone, Copy, Debug)]
 struct Tally {
     logs: u32,
     cuts: u32,
@@ -51,7 +51,7 @@ fn said(
     input: &str,
 ) -> Result<String, Memory> {
     let mut source = MemSource::new(alloc, input.as_bytes())?;
-    let mut sink = MemSink::new(alloc, 65_536)?;
+    let mut sink = MemSink::new(alloc, 4096)?;
     let mut keeper = MemKeeper::new(alloc);
     let status = run::<Stride<7>, MemSource, MemSink, MemKeeper, MemFlash>(
         alloc,
@@ -119,44 +119,89 @@ fn judge(
     Ok(())
 }
 
-/// Whether a cut at this call, which keeps these bits, is passed over: in the some five hundred reads of a `power`, which change
-/// nothing, one in sixteen is judged.
-fn is_passed_over(log: &str, cut: &Cut) -> bool {
-    let is_first = cut.after % 16 == 0 && cut.keep == KEEPS[0];
-    !is_first && log.find("> power\n< down\n").is_some()
+/// What came of a run: it had no cut; the power was cut at a `power`, which changes nothing on the flash; or at an event.
+#[derive(Clone, Copy, PartialEq, Eq)]
+enum Place {
+    Nowhere,
+    Power,
+    Event,
 }
 
-/// Judges the log of these lines over an erased flash that is cut so, and then with one answer of it changed, dropped or
-/// doubled. Tells whether the power was cut.
-fn judge_run(
+/// Where the power was cut in the run that has this log.
+fn place_of(log: &str) -> Place {
+    if log.find("> power\n< down\n").is_some() {
+        return Place::Power;
+    }
+    if log.find("< down\n").is_some() {
+        Place::Event
+    } else {
+        Place::Nowhere
+    }
+}
+
+/// Judges the log of a run, and then with one answer of it changed, dropped or doubled, as is drawn.
+fn judge_both(
     rt: &impl Abort,
     alloc: Global,
-    input: &str,
-    cut: Cut,
+    log: &str,
     draw: &mut Lcg64Xsh32,
     tally: &mut Tally,
-) -> Result<bool, Memory> {
+) -> Result<(), Memory> {
+    judge(rt, alloc, log, log, None)?;
+    let told = changed(rt, alloc, log, draw, tally)?;
+    let wrong = first_difference(log, told.as_str());
+    judge(rt, alloc, log, told.as_str(), Some(wrong))?;
+    tally.logs = tally.logs.saturating_add(1);
+    if place_of(log) != Place::Nowhere {
+        tally.cuts = tally.cuts.saturating_add(1);
+    }
+    Ok(())
+}
+
+/// The log of these lines over an erased flash that fails at the call behind so many, where the cut keeps these bits.
+fn cut_log(rt: &impl Abort, alloc: Global, input: &str, cut: Cut) -> Result<String, Memory> {
     let mut flash = MemFlash::erased();
     flash.plan(Some(cut));
     let answers = said(rt, alloc, &mut flash, &BENCH, input)?;
-    let log = log_of(rt, alloc, input, answers.as_str())?;
-    let is_cut = log.find("< down\n").is_some();
-    if is_passed_over(log.as_str(), &cut) {
-        return Ok(is_cut);
-    }
-    judge(rt, alloc, log.as_str(), log.as_str(), None)?;
-    let told = changed(rt, alloc, log.as_str(), draw, tally)?;
-    let wrong = first_difference(log.as_str(), told.as_str());
-    judge(rt, alloc, log.as_str(), told.as_str(), Some(wrong))?;
-    tally.logs = tally.logs.saturating_add(1);
-    if is_cut {
-        tally.cuts = tally.cuts.saturating_add(1);
-    }
-    Ok(is_cut)
+    log_of(rt, alloc, input, answers.as_str())
 }
 
-/// Judges the logs of these lines where the flash fails at its first call, at the second, and so on, up to the first run without
-/// a cut. What is changed in them is drawn from the number.
+/// Judges the logs of these lines where the flash fails at the call behind so many, for each kind of what the cut keeps; of a
+/// `power`, whose cut changes nothing on the flash, for one. Tells how many calls the next cut comes behind, or none where the
+/// run had no cut: it is the next one, but for two cuts of one `power` that are 31 calls apart, between which none is judged.
+fn judge_cuts(
+    rt: &impl Abort,
+    alloc: Global,
+    input: &str,
+    after: u32,
+    draw: &mut Lcg64Xsh32,
+    tally: &mut Tally,
+) -> Result<Option<u32>, Memory> {
+    for keep in KEEPS {
+        let log = cut_log(rt, alloc, input, Cut { after, keep })?;
+        judge_both(rt, alloc, log.as_str(), draw, tally)?;
+        match place_of(log.as_str()) {
+            Place::Nowhere => return Ok(None),
+            Place::Power => {
+                let further = after.saturating_add(31);
+                let cut = Cut {
+                    after: further,
+                    keep,
+                };
+                let later = cut_log(rt, alloc, input, cut)?;
+                if later.as_str() == log.as_str() {
+                    return Ok(Some(further));
+                }
+                break;
+            }
+            Place::Event => {}
+        }
+    }
+    Ok(Some(after.saturating_add(1)))
+}
+
+/// Judges the logs of these lines where the flash fails at its first call, at the next one, and so on, up to the first run
+/// without a cut, and judges that one too. What is changed in them is drawn from the number.
 fn judge_story(rt: &impl Abort, alloc: Global, input: &str, seed: u64) -> Result<Tally, Memory> {
     let mut draw = Lcg64Xsh32::new(seed, STREAM);
     let mut tally = Tally {
@@ -167,15 +212,27 @@ fn judge_story(rt: &impl Abort, alloc: Global, input: &str, seed: u64) -> Result
         doubled: 0,
         short: 0,
     };
+    let mut next = 0;
     for after in 0..MOST_CALLS {
-        let mut is_cut = false;
-        for keep in KEEPS {
-            let cut = Cut { after, keep };
-            is_cut = judge_run(rt, alloc, input, cut, &mut draw, &mut tally)?;
+        if after < next {
+            continue;
         }
-        if !is_cut {
-            return Ok(tally);
+        match judge_cuts(rt, alloc, input, after, &mut draw, &mut tally)? {
+            Some(behind) => next = behind,
+            None => return Ok(tally),
         }
     }
     Ok(tally)
+}
+
+/// Whether at least so many logs were judged, all but one of them with a power cut; and each change was made in a fifth of
+/// them, with some of which only the end is missing.
+fn has_tried(tally: &Tally, logs: u32) -> bool {
+    let fifth = logs / 5;
+    tally.logs >= logs
+        && tally.logs == tally.cuts.saturating_add(1)
+        && tally.changed >= fifth
+        && tally.dropped >= fifth
+        && tally.doubled >= fifth
+        && tally.short > 0
 }

@@ -19,7 +19,9 @@ fn ends_a_number(text: &[u8], at: usize) -> bool {
 /// How many numbers stand in the text.
 fn number_count(text: &str) -> usize {
     let bytes = text.as_bytes();
-    (0..bytes.len()).filter(|at| ends_a_number(bytes, *at)).count()
+    (0..bytes.len())
+        .filter(|at| ends_a_number(bytes, *at))
+        .count()
 }
 
 /// The digit that is five further on, round behind 9.
@@ -46,7 +48,11 @@ fn with_number_changed(alloc: Global, text: &str, number: usize) -> Result<Strin
     let mut seen = 0usize;
     for (at, c) in text.chars().enumerate() {
         let ends = ends_a_number(text.as_bytes(), at);
-        let new = if ends && seen == number { five_on(c) } else { c };
+        let new = if ends && seen == number {
+            five_on(c)
+        } else {
+            c
+        };
         all.push(new).map_err(|_| Memory)?;
         if ends {
             seen = seen.saturating_add(1);
@@ -89,7 +95,11 @@ fn wrong_answer(
     if numbers > 0 {
         return with_number_changed(alloc, answer, word as usize / 4 % numbers);
     }
-    let wrong = if answer == "< old" { "< unmade" } else { "< old" };
+    let wrong = if answer == "< old" {
+        "< unmade"
+    } else {
+        "< old"
+    };
     format!(in alloc; "{wrong}").map_err(|_| Memory)
 }
 
