@@ -31,7 +31,7 @@ const STREAM: u64 = 54;
 const MOST_CALLS: u32 = 4096;
 
 /// How many logs were judged, how many of them have a power cut, and how many were judged again with one answer changed,
-/// dropped or doubled; and of how many changed ones only the answers at the end are missing.
+/// dropped or doubled.
 #[derive(Clone, Copy, Debug)]
 struct Tally {
     logs: u32,
@@ -39,7 +39,6 @@ struct Tally {
     changed: u32,
     dropped: u32,
     doubled: u32,
-    short: u32,
 }
 
 /// What a run by these words over the flash and empty tables writes, which ends well.
@@ -158,6 +157,14 @@ fn judge_both(
     Ok(())
 }
 
+/// Judges the log of a run without its last answer, which is missing then: it stands on the last line.
+fn judge_short(rt: &impl Abort, alloc: Global, log: &str) -> Result<(), Memory> {
+    let (told, last) = log.trim_end().rsplit_once('\n').expect(rt, "two lines");
+    assert!(rt; is_answer(last));
+    let missing = first_difference(log, told);
+    judge(rt, alloc, log, told, Some(missing))
+}
+
 /// The log of these lines over an erased flash that fails at the call behind so many, where the cut keeps these bits.
 fn cut_log(rt: &impl Abort, alloc: Global, input: &str, cut: Cut) -> Result<String, Memory> {
     let mut flash = MemFlash::erased();
@@ -181,7 +188,10 @@ fn judge_cuts(
         let log = cut_log(rt, alloc, input, Cut { after, keep })?;
         judge_both(rt, alloc, log.as_str(), draw, tally)?;
         match place_of(log.as_str()) {
-            Place::Nowhere => return Ok(None),
+            Place::Nowhere => {
+                judge_short(rt, alloc, log.as_str())?;
+                return Ok(None);
+            }
             Place::Power => {
                 let further = after.saturating_add(31);
                 let cut = Cut {
@@ -201,7 +211,7 @@ fn judge_cuts(
 }
 
 /// Judges the logs of these lines where the flash fails at its first call, at the next one, and so on, up to the first run
-/// without a cut, and judges that one too. What is changed in them is drawn from the number.
+/// without a cut, and judges that one too, also without its last answer. What else is changed is drawn from the number.
 fn judge_story(rt: &impl Abort, alloc: Global, input: &str, seed: u64) -> Result<Tally, Memory> {
     let mut draw = Lcg64Xsh32::new(seed, STREAM);
     let mut tally = Tally {
@@ -210,7 +220,6 @@ fn judge_story(rt: &impl Abort, alloc: Global, input: &str, seed: u64) -> Result
         changed: 0,
         dropped: 0,
         doubled: 0,
-        short: 0,
     };
     let mut next = 0;
     for after in 0..MOST_CALLS {
@@ -225,8 +234,7 @@ fn judge_story(rt: &impl Abort, alloc: Global, input: &str, seed: u64) -> Result
     Ok(tally)
 }
 
-/// Whether at least so many logs were judged, all but one of them with a power cut; and each change was made in a fifth of
-/// them, with some of which only the end is missing.
+/// Whether at least so many logs were judged, all but one of them with a power cut, and each change was made in a fifth of them.
 fn has_tried(tally: &Tally, logs: u32) -> bool {
     let fifth = logs / 5;
     tally.logs >= logs
@@ -234,5 +242,4 @@ fn has_tried(tally: &Tally, logs: u32) -> bool {
         && tally.changed >= fifth
         && tally.dropped >= fifth
         && tally.doubled >= fifth
-        && tally.short > 0
 }

@@ -158,26 +158,25 @@ pub(super) fn first_difference(log: &str, told: &str) -> u64 {
     line
 }
 
-/// The line of this number, counted from 1, if there is one.
-fn line_at(log: &str, number: u64) -> Option<&str> {
-    let mut line = 0u64;
-    log.lines().find(|_| {
-        line = line.saturating_add(1);
-        line == number
-    })
+/// The line of the second log at which it first isn't as the first one; nothing where it is a first part of it.
+fn different_line<'a>(log: &str, told: &'a str) -> &'a str {
+    let mut lines = log.lines();
+    for new in told.lines() {
+        if lines.next() != Some(new) {
+            return new;
+        }
+    }
+    ""
 }
 
 /// Counts one answer more that was so changed.
-fn count(tally: &mut Tally, change: Change, is_short: bool) {
+fn count(tally: &mut Tally, change: Change) {
     let of_change = match change {
         Change::Changed => &mut tally.changed,
         Change::Dropped => &mut tally.dropped,
         Change::Doubled => &mut tally.doubled,
     };
     *of_change = of_change.saturating_add(1);
-    if is_short {
-        tally.short = tally.short.saturating_add(1);
-    }
 }
 
 /// The log with one answer changed, dropped or doubled, so that no run can have its line where it first isn't as the log. Which
@@ -202,13 +201,10 @@ pub(super) fn changed(
         _ => Change::Doubled,
     };
     let word = draw.next_word();
-    let mut told = rewritten(alloc, log, change, at, other, word)?;
-    let mut next = line_at(told.as_str(), first_difference(log, told.as_str()));
-    if change == Change::Dropped && next == Some("< down") {
+    let first = rewritten(alloc, log, change, at, other, word)?;
+    if change == Change::Dropped && different_line(log, first.as_str()) == "< down" {
         change = Change::Doubled;
-        told = rewritten(alloc, log, change, at, other, word)?;
-        next = line_at(told.as_str(), first_difference(log, told.as_str()));
     }
-    count(tally, change, next.is_none());
-    Ok(told)
+    count(tally, change);
+    rewritten(alloc, log, change, at, other, word)
 }
