@@ -1,5 +1,6 @@
-// Logs of runs of `bench` over objects in memory, and what is said of them. Each device is made, and enrolled, with a key of
-// 16 zeros, the starting code 123456789, whole days and nine digits, and the counts of its chain are 7,000 apart.
+// Logs of runs of `bench` over objects in memory, and what is said of them. Each device is made, and enrolled, with a
+// key of 16 zeros, the starting code 123456789, whole days and nine digits, and the counts of its chain are 7,000
+// apart.
 mod changes;
 mod logs;
 mod stories;
@@ -30,8 +31,8 @@ const STREAM: u64 = 54;
 /// More calls than any story makes of the flash.
 const MOST_CALLS: u32 = 4096;
 
-/// How many logs were judged, how many of them have a power cut, and how many were judged again with one answer changed,
-/// dropped or doubled.
+/// How many logs were judged, how many of them have a power cut, and how many were judged again with one answer
+/// changed, dropped or doubled.
 #[derive(Clone, Copy, Debug)]
 struct Tally {
     logs: u32,
@@ -74,8 +75,8 @@ fn hand(rt: &impl Abort, check: &mut Check<Stride<7>>, line: &str) {
     }
 }
 
-/// What is said of the first lines of a log, so many, where this line comes next, or none: a yes where all of them have their
-/// answers.
+/// What is said of the first lines of a log, so many, where this line comes next, or none: a yes where all of them have
+/// their answers.
 fn verdict_before(lines: u64, next: Option<&str>) -> Verdict {
     match next {
         Some(line) if is_answer(line) => Verdict::No {
@@ -85,8 +86,8 @@ fn verdict_before(lines: u64, next: Option<&str>) -> Verdict {
     }
 }
 
-/// Judges each first part of `told`, and the whole of it also by the program. It is the log of a run up to the line before
-/// `wrong`, and from there on it isn't.
+/// Judges each first part of `told`, and the whole of it also by the program. It is the log of a run up to the line
+/// before `wrong`, and from there on it isn't.
 fn judge(
     rt: &impl Abort,
     alloc: Global,
@@ -118,7 +119,8 @@ fn judge(
     Ok(())
 }
 
-/// What came of a run: it had no cut; the power was cut at a `power`, which changes nothing on the flash; or at an event.
+/// What came of a run: it had no cut; the power was cut at a `power`, which changes nothing on the flash; or at an
+/// event.
 #[derive(Clone, Copy, PartialEq, Eq)]
 enum Place {
     Nowhere,
@@ -173,9 +175,10 @@ fn cut_log(rt: &impl Abort, alloc: Global, input: &str, cut: Cut) -> Result<Stri
     log_of(rt, alloc, input, answers.as_str())
 }
 
-/// Judges the logs of these lines where the flash fails at the call behind so many, for each kind of what the cut keeps; of a
-/// `power`, whose cut changes nothing on the flash, for one. Tells how many calls the next cut comes behind, or none where the
-/// run had no cut: it is the next one, but for two cuts of one `power` that are 31 calls apart, between which none is judged.
+/// Judges the logs of these lines where the flash fails at the call behind so many, for each kind of what the cut
+/// keeps; of a `power`, whose cut changes nothing on the flash, for one. Tells how many calls the next cut comes
+/// behind, or none where the run had no cut: it is the next one, but for two cuts of one `power` that are 31 calls
+/// apart, between which none is judged.
 fn judge_cuts(
     rt: &impl Abort,
     alloc: Global,
@@ -210,8 +213,9 @@ fn judge_cuts(
     Ok(Some(after.saturating_add(1)))
 }
 
-/// Judges the logs of these lines where the flash fails at its first call, at the next one, and so on, up to the first run
-/// without a cut, and judges that one too, also without its last answer. What else is changed is drawn from the number.
+/// Judges the logs of these lines where the flash fails at its first call, at the next one, and so on, up to the first
+/// run without a cut, and judges that one too, also without its last answer. What else is changed is drawn from the
+/// number.
 fn judge_story(rt: &impl Abort, alloc: Global, input: &str, seed: u64) -> Result<Tally, Memory> {
     let mut draw = Lcg64Xsh32::new(seed, STREAM);
     let mut tally = Tally {
@@ -234,7 +238,8 @@ fn judge_story(rt: &impl Abort, alloc: Global, input: &str, seed: u64) -> Result
     Ok(tally)
 }
 
-/// Whether at least so many logs were judged, all but one of them with a power cut, and each change was made in a fifth of them.
+/// Whether at least so many logs were judged, all but one of them with a power cut, and each change was made in a fifth
+/// of them.
 fn has_tried(tally: &Tally, logs: u32) -> bool {
     let fifth = logs / 5;
     tally.logs >= logs

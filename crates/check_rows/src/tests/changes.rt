@@ -41,8 +41,8 @@ fn five_on(digit: char) -> char {
     }
 }
 
-/// The text with the last digit of this number of it, counted from 0, five further on: no cut makes a difference of five in
-/// the stories.
+/// The text with the last digit of this number of it, counted from 0, five further on: no cut makes a difference of
+/// five in the stories.
 fn with_number_changed(alloc: Global, text: &str, number: usize) -> Result<String, Memory> {
     let mut all = String::new(alloc);
     let mut seen = 0usize;
@@ -70,26 +70,23 @@ fn first_word(line: &str) -> &str {
     }
 }
 
-/// Whether the other answer of the log can't stand in the place of this one, which was given to this line. A `power` has
-/// answers that a cut leaves open, and a `down` stands for each answer of an event.
-fn is_out_of_place(typed: &str, answer: &str, other: &str) -> bool {
-    typed != "> power"
-        && answer != "< down"
-        && other != "< down"
-        && first_word(answer) != first_word(other)
+/// Whether the other answer of the log can't stand in the place of this one, which was given to a `power` or to another
+/// line. A `power` has answers that a cut leaves open, and a `down` stands for each answer of an event.
+fn is_out_of_place(of_power: bool, answer: &str, other: &str) -> bool {
+    !of_power && answer != "< down" && other != "< down" && first_word(answer) != first_word(other)
 }
 
-/// A line of the log in the place of this answer to this line, which no run can have there: another answer of the log, one
-/// with another number, or another word.
+/// A line of the log in the place of this answer to a `power` or to another line, which no run can have there: another
+/// answer of the log, one with another number, or another word.
 fn wrong_answer(
     alloc: Global,
-    typed: &str,
+    of_power: bool,
     answer: &str,
     other: &str,
     word: u32,
 ) -> Result<String, Memory> {
     let numbers = number_count(answer);
-    if word % 4 == 0 && is_out_of_place(typed, answer, other) {
+    if word % 4 == 0 && is_out_of_place(of_power, answer, other) {
         return format!(in alloc; "{other}").map_err(|_| Memory);
     }
     if numbers > 0 {
@@ -121,17 +118,17 @@ fn rewritten(
     word: u32,
 ) -> Result<String, Memory> {
     let mut all = String::new(alloc);
-    let mut typed = "";
+    let mut of_power = false;
     let mut seen = 0usize;
     for line in log.lines() {
         let is_here = is_answer(line) && seen == at;
         if is_answer(line) {
             seen = seen.saturating_add(1);
         } else {
-            typed = line;
+            of_power = line == "> power";
         }
         if is_here && change == Change::Changed {
-            let wrong = wrong_answer(alloc, typed, line, other, word)?;
+            let wrong = wrong_answer(alloc, of_power, line, other, word)?;
             put(alloc, &mut all, "", wrong.as_str())?;
         }
         if !is_here || change == Change::Doubled {
@@ -144,8 +141,8 @@ fn rewritten(
     Ok(all)
 }
 
-/// The number of the first line, counted from 1, at which the second log isn't as the first one: the line behind its last one,
-/// where it is a first part of it.
+/// The number of the first line, counted from 1, at which the second log isn't as the first one: the line behind its
+/// last one, where it is a first part of it.
 pub(super) fn first_difference(log: &str, told: &str) -> u64 {
     let mut line = 1u64;
     let mut lines = log.lines();
@@ -179,9 +176,9 @@ fn count(tally: &mut Tally, change: Change) {
     *of_change = of_change.saturating_add(1);
 }
 
-/// The log with one answer changed, dropped or doubled, so that no run can have its line where it first isn't as the log. Which
-/// answer it is, and what is done with it, is drawn. Where an answer is dropped in front of a `down`, which the same line may
-/// have, the answer is doubled.
+/// The log with one answer changed, dropped or doubled, so that no run can have its line where it first isn't as the
+/// log. Which answer it is, and what is done with it, is drawn. Where an answer is dropped in front of a `down`, which
+/// the same line may have, the answer is doubled.
 pub(super) fn changed(
     rt: &impl Abort,
     alloc: Global,

@@ -8,8 +8,8 @@ pub(super) fn is_answer(line: &str) -> bool {
     line.starts_with("< ")
 }
 
-/// How many answers this line has on a device that is on, or off, where none of them is `down`. The line is of a form; the
-/// forms are those of the stories.
+/// How many answers this line has on a device that is on, or off, where none of them is `down`. The line is of a form;
+/// the forms are those of the stories.
 fn most_answers(line: &str, is_on: bool) -> usize {
     if line.starts_with("{") || line == "power" || line == "walk" {
         return 1;
