@@ -28,6 +28,9 @@ const KEEPS: [u64; 4] = [0, u64::MAX, 0xffff_ffff, 0x5555_5555_5555_5555];
 /// The stream of the numbers that are drawn.
 const STREAM: u64 = 54;
 
+/// How many calls apart the reads of one `power` are cut: nine times as many and one are the calls of a `power`.
+const READS: u32 = 57;
+
 /// More calls than any story makes of the flash.
 const MOST_CALLS: u32 = 4096;
 
@@ -177,7 +180,7 @@ fn cut_log(rt: &impl Abort, alloc: Global, input: &str, cut: Cut) -> Result<Stri
 
 /// Judges the logs of these lines where the flash fails at the call behind so many, for each kind of what the cut
 /// keeps; of a `power`, whose cut changes nothing on the flash, for one. Tells how many calls the next cut comes
-/// behind, or none where the run had no cut: it is the next one, but for two cuts of one `power` that are 31 calls
+/// behind, or none where the run had no cut: it is the next one, but for two cuts of one `power` that are 57 calls
 /// apart, between which none is judged.
 fn judge_cuts(
     rt: &impl Abort,
@@ -196,7 +199,7 @@ fn judge_cuts(
                 return Ok(None);
             }
             Place::Power => {
-                let further = after.saturating_add(31);
+                let further = after.saturating_add(READS);
                 let cut = Cut {
                     after: further,
                     keep,
