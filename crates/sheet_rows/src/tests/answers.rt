@@ -180,11 +180,23 @@ fn lines_that_are_no_ask(rt: HostRuntime) -> Result<(), Memory> {
         ("power\r\n", "no device here\nsales 0 0 0\n"),
         ("\r\r\n", "no device here\nsales 0 0 0\n"),
         (" {}\n", "no device here\nsales 0 0 0\n"),
-        ("sales 1 500 1\nshow", "no device here\nno device here\nsales 0 0 0\n"),
+        (
+            "sales 1 500 1\nshow",
+            "no device here\nno device here\nsales 0 0 0\n",
+        ),
         ("{", "{\"no\":9,\"why\":\"json\"}\nsales 0 0 0\n"),
-        ("{\"do\":\"sheet\"}}\n", "{\"no\":9,\"why\":\"json\"}\nsales 0 0 0\n"),
-        ("{\"do\":\"sheet\",}\n", "{\"no\":9,\"why\":\"json\"}\nsales 0 0 0\n"),
-        ("{\"do\":\"sheet\"} x\n", "{\"no\":9,\"why\":\"json\"}\nsales 0 0 0\n"),
+        (
+            "{\"do\":\"sheet\"}}\n",
+            "{\"no\":9,\"why\":\"json\"}\nsales 0 0 0\n",
+        ),
+        (
+            "{\"do\":\"sheet\",}\n",
+            "{\"no\":9,\"why\":\"json\"}\nsales 0 0 0\n",
+        ),
+        (
+            "{\"do\":\"sheet\"} x\n",
+            "{\"no\":9,\"why\":\"json\"}\nsales 0 0 0\n",
+        ),
     ];
     for (input, want) in rows {
         let mut keeper = enrolled(&rt, alloc)?;
@@ -193,10 +205,20 @@ fn lines_that_are_no_ask(rt: HostRuntime) -> Result<(), Memory> {
     }
     // bytes that are no text, and one byte 13 behind a line
     let mut keeper = enrolled(&rt, alloc)?;
-    let run = ran(&rt, alloc, &mut keeper, &SHEETS, &[b'{', 0xFF, b'\n', 0xFF], CALM)?;
+    let run = ran(
+        &rt,
+        alloc,
+        &mut keeper,
+        &SHEETS,
+        &[b'{', 0xFF, b'\n', 0xFF],
+        CALM,
+    )?;
     assert_eq!(rt;
         (run.0, run.1.as_str()),
-        (Status::Ok, "{\"no\":9,\"why\":\"json\"}\nno device here\nsales 0 0 0\n")
+        (
+            Status::Ok,
+            "{\"no\":9,\"why\":\"json\"}\nno device here\nsales 0 0 0\n"
+        )
     );
     let line = joined(alloc, SHEET.trim_end(), "\r\n")?;
     let text = said(&rt, alloc, &mut keeper, &SHEETS, &line)?;
@@ -230,7 +252,12 @@ fn the_longest_line_and_longer_ones(rt: HostRuntime) -> Result<(), Memory> {
 #[test]
 fn words_of_another_form(rt: HostRuntime) -> Result<(), Memory> {
     let alloc = rt.alloc();
-    let rows: [&[&str]; 4] = [&["sheets"], &["sheets", ""], &["sheets", "D", "F"], &["sheet", "D"]];
+    let rows: [&[&str]; 4] = [
+        &["sheets"],
+        &["sheets", ""],
+        &["sheets", "D", "F"],
+        &["sheet", "D"],
+    ];
     for words in rows {
         let mut keeper = MemKeeper::new(alloc);
         let run = ran(&rt, alloc, &mut keeper, words, SHEET.as_bytes(), CALM)?;

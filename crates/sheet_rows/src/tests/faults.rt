@@ -1,4 +1,5 @@
-// Keeper, input and output fail, each at each of its calls: what was answered stays, and the same lines typed again come to the same.
+// Keeper, input and output fail, each at each of its calls: what was answered stays, and the same lines typed again come
+// to the same.
 use super::{CALM, Plan, SERVE, SHEETS, enrolled, ran, said, tables, whole_lines, without_last};
 use ledger_keeper::MemKeeper;
 use paygo_cli::Status;
@@ -53,6 +54,10 @@ const PAYMENTS: [&str; 8] = [
 /// How many of them make an order that wasn't there.
 const NEW: u64 = 6;
 
+/// How often the day calls the keeper: 4 times for each of these, twice for each of the two that are there already and for
+/// the one that is refused, and once for each of four reports.
+const CALLS: u64 = 34;
+
 /// How an answer begins that is an order.
 const ORDER: &str = "{\"ok\":\"order\"";
 
@@ -62,6 +67,12 @@ struct Tally {
     failed: u64,
     changed: u64,
 }
+
+/// No run failed yet.
+const NONE: Tally = Tally {
+    failed: 0,
+    changed: 0,
+};
 
 /// One run more that failed.
 fn counted(tally: Tally, changed: bool) -> Tally {
@@ -76,27 +87,41 @@ fn orders_in(text: &str) -> usize {
     text.lines().filter(|line| line.starts_with(ORDER)).count()
 }
 
-/// The tables behind the first of the payments, so many.
-fn tables_behind(rt: &impl Abort, alloc: Global, payments: usize) -> Result<String, Memory> {
+/// The tables before the first of the payments, behind it, behind the second, and so on to the last.
+fn states(rt: &impl Abort, alloc: Global) -> Result<Vec<String>, Memory> {
     let mut keeper = enrolled(rt, alloc)?;
-    for (at, payment) in PAYMENTS.iter().enumerate() {
-        if at < payments {
-            said(rt, alloc, &mut keeper, &SERVE, payment)?;
-        }
+    let mut states = Vec::new(alloc);
+    states
+        .push(tables(rt, alloc, &mut keeper)?)
+        .map_err(|_| Memory)?;
+    for payment in PAYMENTS {
+        said(rt, alloc, &mut keeper, &SERVE, payment)?;
+        states
+            .push(tables(rt, alloc, &mut keeper)?)
+            .map_err(|_| Memory)?;
     }
-    tables(rt, alloc, &mut keeper)
+    Ok(states)
 }
 
-/// Runs the day over the keeper and streams with a plan, up to a fault with this status, and looks that what was written begins
-/// the day's answers. The tables are those behind the orders that were answered whole, or those behind one more, whose answer was
-/// to come next. Then the whole day is typed again, and all is as in a run without a fault. Tells whether the tables had one
-/// more, and nothing where no fault came.
+/// The tables behind so many of the payments.
+fn state(states: &[String], payments: usize) -> &str {
+    match states.get(payments) {
+        Some(text) => text.as_str(),
+        None => "no state",
+    }
+}
+
+/// Runs the day over the keeper and streams with a plan, up to a fault with this status, and looks that what was written
+/// begins the day's answers. The tables are those behind the orders that were answered whole, or those behind one more,
+/// whose answer was to come next. Then the whole day is typed again, and all is as in a run without a fault. Tells whether
+/// the tables had one more, and nothing where no fault came.
 fn failed(
     rt: &impl Abort,
     alloc: Global,
     keeper: &mut MemKeeper,
     plan: Plan,
     want: Status,
+    states: &[String],
 ) -> Result<Option<bool>, Memory> {
     let (status, text) = ran(rt, alloc, keeper, &SHEETS, DAY.as_bytes(), plan)?;
     if status == Status::Ok {
@@ -109,35 +134,30 @@ fn failed(
     let orders = orders_in(whole);
     let is_order_next = SAID.get(whole.len()..).unwrap_or("").starts_with(ORDER);
     let now = tables(rt, alloc, keeper)?;
-    let before = tables_behind(rt, alloc, orders)?;
-    let behind = tables_behind(rt, alloc, orders.saturating_add(1))?;
-    let changed = now.as_str() != before.as_str();
+    let changed = now.as_str() != state(states, orders);
     if changed {
         assert!(rt; is_order_next && want != Status::Read, "{text}");
-        assert_eq!(rt; now.as_str(), behind.as_str());
     }
     // an order whose answer was cut stays
-    if want == Status::Write && is_order_next {
-        assert_eq!(rt; now.as_str(), behind.as_str());
+    if changed || (want == Status::Write && is_order_next) {
+        assert_eq!(rt; now.as_str(), state(states, orders.saturating_add(1)));
     }
     let again = said(rt, alloc, keeper, &SHEETS, DAY)?;
     assert_eq!(rt; again.as_str(), SAID);
-    let all = tables_behind(rt, alloc, PAYMENTS.len())?;
-    assert_eq!(rt; tables(rt, alloc, keeper)?.as_str(), all.as_str());
+    let all = tables(rt, alloc, keeper)?;
+    assert_eq!(rt; all.as_str(), state(states, PAYMENTS.len()));
     Ok(Some(changed))
 }
 
 /// Fails each call of the keeper that the day makes, one after the other, whole or not.
 fn each_call(rt: &impl Abort, alloc: Global, whole: bool) -> Result<Tally, Memory> {
-    let mut tally = Tally {
-        failed: 0,
-        changed: 0,
-    };
+    let states = states(rt, alloc)?;
+    let mut tally = NONE;
     // four calls enrolled the devices
     for call in 5..500u64 {
         let mut keeper = enrolled(rt, alloc)?;
         keeper.fail_at(call, whole);
-        match failed(rt, alloc, &mut keeper, CALM, Status::Keep)? {
+        match failed(rt, alloc, &mut keeper, CALM, Status::Keep, &states)? {
             Some(changed) => tally = counted(tally, changed),
             None => break,
         }
@@ -147,23 +167,27 @@ fn each_call(rt: &impl Abort, alloc: Global, whole: bool) -> Result<Tally, Memor
 
 #[test]
 fn each_call_of_the_keeper_fails(rt: HostRuntime) -> Result<(), Memory> {
-    let lost = each_call(&rt, rt.alloc(), false)?;
-    let kept = each_call(&rt, rt.alloc(), true)?;
-    assert_eq!(rt; (lost.failed, lost.changed, kept.failed, kept.changed), (0, 0, 0, NEW));
+    let tally = each_call(&rt, rt.alloc(), false)?;
+    assert_eq!(rt; (tally.failed, tally.changed), (CALLS, 0));
+    Ok(())
+}
+
+#[test]
+fn each_call_of_the_keeper_fails_behind_its_change(rt: HostRuntime) -> Result<(), Memory> {
+    let tally = each_call(&rt, rt.alloc(), true)?;
+    assert_eq!(rt; (tally.failed, tally.changed), (CALLS, NEW));
     Ok(())
 }
 
 #[test]
 fn each_write_of_an_answer_fails(rt: HostRuntime) -> Result<(), Memory> {
     let alloc = rt.alloc();
-    let mut tally = Tally {
-        failed: 0,
-        changed: 0,
-    };
+    let states = states(&rt, alloc)?;
+    let mut tally = NONE;
     for write in 1..100u64 {
         let mut keeper = enrolled(&rt, alloc)?;
         let plan = Plan { write, ..CALM };
-        match failed(&rt, alloc, &mut keeper, plan, Status::Write)? {
+        match failed(&rt, alloc, &mut keeper, plan, Status::Write, &states)? {
             Some(changed) => tally = counted(tally, changed),
             None => break,
         }
@@ -174,46 +198,47 @@ fn each_write_of_an_answer_fails(rt: HostRuntime) -> Result<(), Memory> {
 }
 
 #[test]
-fn each_room_for_answers_is_too_short(rt: HostRuntime) -> Result<(), Memory> {
+fn rooms_for_answers_are_too_short(rt: HostRuntime) -> Result<(), Memory> {
     let alloc = rt.alloc();
-    let mut runs = 0usize;
-    for room in 0..SAID.len() {
+    let states = states(&rt, alloc)?;
+    let mut tally = NONE;
+    let mut room = 0usize;
+    for _ in 0..200u8 {
         let mut keeper = enrolled(&rt, alloc)?;
         let plan = Plan { room, ..CALM };
-        let failed = failed(&rt, alloc, &mut keeper, plan, Status::Write)?;
-        assert!(rt; failed.is_some(), "{room}");
-        runs = runs.saturating_add(1);
+        match failed(&rt, alloc, &mut keeper, plan, Status::Write, &states)? {
+            Some(changed) => tally = counted(tally, changed),
+            None => break,
+        }
+        room = room.saturating_add(23).min(SAID.len());
     }
-    assert!(rt; runs > 1000);
-    // and this much is enough
-    let mut keeper = enrolled(&rt, alloc)?;
-    let plan = Plan {
-        room: SAID.len(),
-        ..CALM
-    };
-    assert!(rt; failed(&rt, alloc, &mut keeper, plan, Status::Write)?.is_none());
+    // the last run had just enough
+    assert_eq!(rt; room, SAID.len());
+    assert_eq!(rt; tally.failed, SAID.len().div_ceil(23) as u64);
+    assert!(rt; tally.changed >= NEW);
     Ok(())
 }
 
 #[test]
 fn each_read_of_the_input_fails(rt: HostRuntime) -> Result<(), Memory> {
     let alloc = rt.alloc();
-    let mut runs = 0u64;
-    for read in 1..2000u64 {
+    let states = states(&rt, alloc)?;
+    let mut tally = NONE;
+    for read in 1..200u64 {
         let mut keeper = enrolled(&rt, alloc)?;
         let plan = Plan {
             read,
-            most: 7,
+            most: 20,
             ..CALM
         };
-        match failed(&rt, alloc, &mut keeper, plan, Status::Read)? {
-            Some(changed) => assert!(rt; !changed),
+        match failed(&rt, alloc, &mut keeper, plan, Status::Read, &states)? {
+            Some(changed) => tally = counted(tally, changed),
             None => break,
         }
-        runs = runs.saturating_add(1);
     }
-    // a read for each seven bytes, and one that tells the end
-    assert_eq!(rt; runs, (DAY.len() as u64).div_ceil(7).saturating_add(1));
+    // a read for each twenty bytes, and one that tells the end
+    let reads = (DAY.len() as u64).div_ceil(20).saturating_add(1);
+    assert_eq!(rt; (tally.failed, tally.changed), (reads, 0));
     Ok(())
 }
 

@@ -167,8 +167,14 @@ fn told_in_any_order(rt: &impl Abort, alloc: Global, seed: u64) -> Result<String
         let text = said(rt, alloc, &mut keeper, &SHEETS, &lines)?;
         assert!(rt; text.ends_with(want.as_str()), "{seed} {turn} {want}");
         assert_eq!(rt; answers_with(&text, "sales "), 1);
-        assert_eq!(rt; answers_with(&text, "{\"ok\":\"sold\""), sold.saturating_mul(times));
-        assert_eq!(rt; text.lines().count(), REPORTS.saturating_mul(times).saturating_add(1));
+        assert_eq!(rt;
+            answers_with(&text, "{\"ok\":\"sold\""),
+            sold.saturating_mul(times)
+        );
+        assert_eq!(rt;
+            text.lines().count(),
+            REPORTS.saturating_mul(times).saturating_add(1)
+        );
     }
     assert_eq!(rt; keeper.orders(), 14);
     Ok(want)
