@@ -1,4 +1,5 @@
-// What `sheets` writes over tables in memory. The counts of the chain are 7,000 apart, and its starting code is 123456789.
+// What `sheets` writes over tables in memory. The counts of the chain are 7,000 apart, and its starting code is
+// 123456789.
 mod answers;
 mod faults;
 mod reports;

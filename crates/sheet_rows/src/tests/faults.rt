@@ -1,5 +1,5 @@
-// Keeper, input and output fail, each at each of its calls: what was answered stays, and the same lines typed again come
-// to the same.
+// Keeper, input and output fail, each at each of its calls: what was answered stays, and the same lines typed again
+// come to the same.
 use super::{CALM, Plan, SERVE, SHEETS, enrolled, ran, said, tables, whole_lines, without_last};
 use ledger_keeper::MemKeeper;
 use paygo_cli::Status;
@@ -54,15 +54,15 @@ const PAYMENTS: [&str; 8] = [
 /// How many of them make an order that wasn't there.
 const NEW: u64 = 6;
 
-/// How often the day calls the keeper: 4 times for each of these, twice for each of the two that are there already and for
-/// the one that is refused, and once for each of four reports.
+/// How often the day calls the keeper: 4 times for each of these, twice for each of the two that are there already and
+/// for the one that is refused, and once for each of four reports.
 const CALLS: u64 = 34;
 
 /// How an answer begins that is an order.
 const ORDER: &str = "{\"ok\":\"order\"";
 
 /// How many runs failed, and in how many of them the tables had the change of a payment that wasn't answered.
-#[derive(Clone, Copy, Debug, Drop, PartialEq, Eq)]
+#[derive(Clone, Copy, Drop)]
 struct Tally {
     failed: u64,
     changed: u64,
@@ -111,10 +111,10 @@ fn state(states: &[String], payments: usize) -> &str {
     }
 }
 
-/// Runs the day over the keeper and streams with a plan, up to a fault with this status, and looks that what was written
-/// begins the day's answers. The tables are those behind the orders that were answered whole, or those behind one more,
-/// whose answer was to come next. Then the whole day is typed again, and all is as in a run without a fault. Tells whether
-/// the tables had one more, and nothing where no fault came.
+/// Runs the day over the keeper and streams with a plan, up to a fault with this status, and looks that what was
+/// written begins the day's answers. The tables are those behind the orders that were answered whole, or those behind
+/// one more, whose answer was to come next. Then the whole day is typed again, and all is as in a run without a
+/// fault. Tells whether the tables had one more, and nothing where no fault came.
 fn failed(
     rt: &impl Abort,
     alloc: Global,
