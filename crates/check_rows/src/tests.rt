@@ -89,15 +89,15 @@ fn verdict_before(lines: u64, next: Option<&str>) -> Verdict {
     }
 }
 
-/// Judges each first part of `told`, and the whole of it also by the program. It is the log of a run up to the line
-/// before `wrong`, and from there on it isn't.
-fn judge(
+/// Hands `told` to one check, judges each first part of it, and tells how many lines it has. It is the log of a run up to
+/// the line before `wrong`, and from there on it isn't.
+fn judge_parts(
     rt: &impl Abort,
     alloc: Global,
     log: &str,
     told: &str,
     wrong: Option<u64>,
-) -> Result<(), Memory> {
+) -> Result<u64, Memory> {
     let mut check: Check<Stride<7>> = Check::new(alloc)?;
     let mut following = log.lines();
     let mut lines = 0u64;
@@ -112,12 +112,29 @@ fn judge(
         };
         assert_eq!(rt; check.verdict(), want, "{lines}\n{told}");
     }
-    let text = said(rt, alloc, &mut MemFlash::erased(), &CHECK, told)?;
-    let want = match wrong {
+    Ok(lines)
+}
+
+/// The line of a verdict: `no` and the line that decides, or `yes` and how many lines there are.
+fn verdict_line(alloc: Global, wrong: Option<u64>, lines: u64) -> Result<String, Memory> {
+    let line = match wrong {
         Some(wrong) => format!(in alloc; "no {wrong}\n"),
         None => format!(in alloc; "yes {lines}\n"),
     };
-    let want = want.map_err(|_| Memory)?;
+    line.map_err(|_| Memory)
+}
+
+/// Judges each first part of `told`, and the whole of it also by the program.
+fn judge(
+    rt: &impl Abort,
+    alloc: Global,
+    log: &str,
+    told: &str,
+    wrong: Option<u64>,
+) -> Result<(), Memory> {
+    let lines = judge_parts(rt, alloc, log, told, wrong)?;
+    let text = said(rt, alloc, &mut MemFlash::erased(), &CHECK, told)?;
+    let want = verdict_line(alloc, wrong, lines)?;
     assert_eq!(rt; text.as_str(), want.as_str(), "{told}");
     Ok(())
 }
