@@ -36,7 +36,8 @@ same_truth false b = not b
 abbrev pub same_account : Account → Account → Bool
 same_account a b = (a.paid == b.paid) && ((a.rest == b.rest) && same_truth a.closed b.closed)
 
--- Whether an order's token does what the customer was due: its kind and its value are those that what was asked comes to.
+-- Whether an order's token does what the customer was due: its kind and its value are those that what was asked comes
+-- to.
 abbrev pub is_booked : Booked → Order → Bool
 is_booked due order = same_kind order.kind due.kind && ((order.value == due.value) && may_have order.kind order.value)
 
@@ -45,8 +46,8 @@ abbrev pub unless : Bool → Flaw → List Flaw
 unless true flaw = []
 unless false flaw = flaw ∷ []
 
--- What is wrong with an order of a row whose count is to be below the bound, and whose customer was due so much. A customer
--- who has its token may get another thing for it than what was paid for, or nothing.
+-- What is wrong with an order of a row whose count is to be below the bound, and whose customer was due so much. A
+-- customer who has its token may get another thing for it than what was paid for, or nothing.
 abbrev pub due_flaws : (ℕ → ℕ) → Row → ℕ → Order → Booked → List Flaw
 due_flaws next row bound order due =
     unless (nat_lt order.count bound) (flaw_is.Count order.id)
@@ -58,10 +59,11 @@ due_flaws next row bound order due =
 -- The same where these are the device's older orders, and each count has a price: so much was due after them.
 abbrev pub order_flaws : (ℕ → ℕ) → (ℕ → ℕ) → Row → ℕ → Order → List Order → List Flaw
 order_flaws next price row bound order older =
-    due_flaws next row bound order (booked (price order.count) row.total order.ask (account_after price row.total older))
+    due_flaws next row bound order
+    (booked (price order.count) row.total order.ask (account_after price row.total older))
 
--- What is wrong with the orders of a row, which stand here the newest first, and whose counts are to fall from below the
--- bound: no count is sold twice. It is told from the oldest order on.
+-- What is wrong with the orders of a row, which stand here the newest first, and whose counts are to fall from below
+-- the bound: no count is sold twice. It is told from the oldest order on.
 abbrev pub orders_flaws : (ℕ → ℕ) → (ℕ → ℕ) → Row → ℕ → List Order → List Flaw
 orders_flaws next price row bound [] = []
 orders_flaws next price row bound (order ∷ older) =
@@ -73,8 +75,9 @@ changes_flaws row [] = []
 changes_flaws row (change ∷ changes) =
     unless (nat_le change.from row.last) (flaw_is.Price row.serial) ++ changes_flaws row changes
 
--- What is wrong with a row that has these orders, the newest first, and these changes of its price: with the orders, then
--- with the changes, and then with what the row says of its customer's money, which is to be what the orders come to.
+-- What is wrong with a row that has these orders, the newest first, and these changes of its price: with the orders,
+-- then with the changes, and then with what the row says of its customer's money, which is to be what the orders come
+-- to.
 abbrev pub flaws_by : (ℕ → ℕ) → Row → List Order → List PriceChange → List Flaw
 flaws_by next row orders changes =
     let price = price_by changes row in
@@ -87,7 +90,7 @@ abbrev pub row_flaws : (List ℕ → ℕ → ℕ) → Tables → Row → List Fl
 row_flaws next tables row =
     flaws_by (next row.key) row (orders_back tables row.serial) (prices_for tables row.serial)
 
--- What is wrong in the tables, row by row, by serial. A shop whose list is empty may rely on what the ledger promises of
--- sound tables.
+-- What is wrong in the tables, row by row, by serial. A shop whose list is empty may rely on what the ledger promises
+-- of sound tables.
 abbrev pub flaws : (List ℕ → ℕ → ℕ) → Tables → List Flaw
 flaws next tables = flat_map (row_flaws next tables) (all_rows tables)

@@ -9,8 +9,8 @@ ghost use Rattle.table_flaws.specs.Sums.{account_in, due_in};
 
 use ledger_spec::{Ask, Kind, Order, PriceChange, Row};
 
-// The money of a device after some of its orders. The tables may have more orders of a device than it has counts, so what
-// they paid together may be above what a row can say.
+// The money of a device after some of its orders. The tables may have more orders of a device than it has counts, so
+// what they paid together may be above what a row can say.
 #[derive(Clone, Copy)]
 pub(crate) struct Sums {
     // What was paid.

@@ -46,8 +46,8 @@ fn values_of(alloc: Global, orders: &[Order]) -> Result<Vec<u16>, Memory>
     Ok(values)
 }
 
-// Reckons the tokens of these values, four values at a time, if there is memory. Up to three values are left over at the
-// end: the tokens of each are reckoned once it is asked for.
+// Reckons the tokens of these values, four values at a time, if there is memory. Up to three values are left over at
+// the end: the tokens of each are reckoned once it is asked for.
 fn prepare_all<M: Mixer>(
     alloc: Global,
     tokens: &mut DeviceTokens<M>,
@@ -87,8 +87,8 @@ pub(crate) fn tokens_for<M: Mixer>(
     Ok(tokens)
 }
 
-// What is told of the token of an order. Where it is wrong in one of two ways, the token of its count and value is reckoned
-// by a walk of its own, to tell in which.
+// What is told of the token of an order. Where it is wrong in one of two ways, the token of its count and value is
+// reckoned by a walk of its own, to tell in which.
 pub(crate) fn told_of<M: Mixer>(
     alloc: Global,
     tokens: &mut DeviceTokens<M>,

@@ -7,7 +7,7 @@ ghost use Rattle.table_flaws.specs.Flaws.{unless, due_flaws, orders_flaws, chang
 ghost use Rattle.table_flaws.specs.Sums.{account_in, due_in};
 
 use crate::booking::{Due, Sums, agrees, book, is_booked_as, parity, price_after};
-use crate::checking::{told_of, tokens_for};
+use crate::checking::{tokens_for, told_of};
 use crate::flaw::Flaw;
 use ledger_spec::{Order, PriceChange, Row};
 use paygo_spec::Memory;
@@ -53,8 +53,8 @@ fn push_order<M: Mixer>(
     push_unless(flaws, is_booked_as(due, order), Flaw::Booked(order.id))
 }
 
-// The count below which that of the order in this place is to be: that of the order before it, which is the next newer one,
-// and the row's last count is the greatest.
+// The count below which that of the order in this place is to be: that of the order before it, which is the next
+// newer one, and the row's last count is the greatest.
 fn bound_for(row: &Row, orders: &[Order], place: usize) -> u16
     requires row { RowIsInRange row.now }
     requires place { place < length orders.now }
@@ -104,11 +104,7 @@ fn push_orders<M: Mixer>(
 }
 
 // Adds what is wrong with the changes of a row's price.
-fn push_changes(
-    row: &Row,
-    changes: &[PriceChange],
-    flaws: &mut Vec<Flaw>,
-) -> Result<(), Memory>
+fn push_changes(row: &Row, changes: &[PriceChange], flaws: &mut Vec<Flaw>) -> Result<(), Memory>
     ensures { OnOk result (flaws.new.items ≡ flaws.old.items ++ changes_flaws row.now changes.now) }
 {
     'changes: for change in changes {
@@ -118,16 +114,16 @@ fn push_changes(
 }
 
 /// What is wrong with a row that has these orders, the newest first in the order in which they were added, and these
-/// changes of its price, by rising count. The row, the orders and the changes are in range. Nothing is wrong exactly where
-/// the row is what they come to and each token is right: see `sound_tables_have_no_flaw`.
+/// changes of its price, by rising count. The row, the orders and the changes are in range. Nothing is wrong exactly
+/// where the row is what they come to and each token is right: see `sound_tables_have_no_flaw`.
 ///
-/// The flaws stand from the oldest order on, those of one order in the order of `Flaw`; then those of the changes, and then
-/// that of the row's sums. The counts of all orders are checked, up to the greater of 4,095 and the order's own, whatever
-/// the row's last count is.
+/// The flaws stand from the oldest order on, those of one order in the order of `Flaw`; then those of the changes,
+/// and then that of the row's sums. The counts of all orders are checked, up to the greater of 4,095 and the order's
+/// own, whatever the row's last count is.
 ///
 /// Each value that the orders have takes one walk of 4,096 counts up the row's chain, which serves all orders of that
-/// value, or of 16,384 where an order has a count above 4,095. The chains of four values are walked side by side. An order
-/// whose token is wrong or shared takes one walk more, up to its count.
+/// value, or of 16,384 where an order has a count above 4,095. The chains of four values are walked side by side. An
+/// order whose token is wrong or shared takes one walk more, up to its count.
 ///
 /// # Errors
 ///

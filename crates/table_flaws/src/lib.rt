@@ -1,5 +1,5 @@
-//! What is wrong in a shop's tables, as a list: nothing exactly where they are sound, and so where what the ledger's laws
-//! promise of sound tables holds.
+//! What is wrong in a shop's tables, as a list: nothing exactly where they are sound, and so where what the ledger's
+//! laws promise of sound tables holds.
 #![tactic(auto)]
 
 mod booking;
@@ -14,4 +14,3 @@ pub use laws::sound_tables_have_no_flaw;
 
 #[cfg(test)]
 mod tests;
-

@@ -1,6 +1,6 @@
-// What is found wrong with rows, by tokens that can be reckoned by hand. On the chain of the tests the token of a count and a
-// value is 123,456,000 and 250,000 for each count, and then 789 and the value. So the tokens of the counts from 0 to 95 are
-// those of the counts from 4,000 to 4,095 too.
+// What is found wrong with rows, by tokens that can be reckoned by hand. On the chain of the tests the token of a
+// count and a value is 123,456,000 and 250,000 for each count, and then 789 and the value. So the tokens of the
+// counts from 0 to 95 are those of the counts from 4,000 to 4,095 too.
 ghost use Rattle.std.specs.Prelude.{◌≡◌, ◌≤◌, ◌<◌, ◌*◌, ◌^◌, true, length, All};
 ghost use Rattle.ledger_spec.specs.Tables.{is_limit, RowIsInRange, OrderIsInRange, ChangeIsInRange, AskIsInRange};
 
@@ -68,7 +68,15 @@ fn row_to(rt: &impl Abort, limit: u16, paid: u64, rest: u64, last: u16, closed: 
 }
 
 // An order of the device.
-fn order(rt: &impl Abort, id: &[u8], ask: Ask, kind: Kind, count: u16, value: u16, token: u32) -> Order
+fn order(
+    rt: &impl Abort,
+    id: &[u8],
+    ask: Ask,
+    kind: Kind,
+    count: u16,
+    value: u16,
+    token: u32,
+) -> Order
     requires ask { AskIsInRange ask }
     requires count { (1 ≤ count) × (count ≤ 16383) }
     requires value { value ≤ 999 }
@@ -109,7 +117,14 @@ fn change(rt: &impl Abort, from: u16, price: u64) -> PriceChange
 }
 
 // These flaws are found, in this order, on the chain of the tests.
-fn check(rt: &impl Abort, a: Global, row: &Row, orders: &[Order], changes: &[PriceChange], want: &[(u8, &[u8])])
+fn check(
+    rt: &impl Abort,
+    a: Global,
+    row: &Row,
+    orders: &[Order],
+    changes: &[PriceChange],
+    want: &[(u8, &[u8])],
+)
     requires row { RowIsInRange row.now }
     requires orders { All OrderIsInRange orders.now }
     requires changes { All ChangeIsInRange changes.now }
@@ -118,7 +133,14 @@ fn check(rt: &impl Abort, a: Global, row: &Row, orders: &[Order], changes: &[Pri
 }
 
 // The same on another chain.
-fn check_on<M: Mixer>(rt: &impl Abort, a: Global, row: &Row, orders: &[Order], changes: &[PriceChange], want: &[(u8, &[u8])])
+fn check_on<M: Mixer>(
+    rt: &impl Abort,
+    a: Global,
+    row: &Row,
+    orders: &[Order],
+    changes: &[PriceChange],
+    want: &[(u8, &[u8])],
+)
     requires row { RowIsInRange row.now }
     requires orders { All OrderIsInRange orders.now }
     requires changes { All ChangeIsInRange changes.now }

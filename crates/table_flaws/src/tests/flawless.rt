@@ -12,7 +12,15 @@ fn an_order_of_each_kind(rt: HostRuntime) {
     let a = rt.alloc();
     let row = row(&rt, 480, 10, 106, true);
     let orders = [
-        order(&rt, b"o5", Ask::Disable, Kind::Disable, 105, 998, 149_706_787),
+        order(
+            &rt,
+            b"o5",
+            Ask::Disable,
+            Kind::Disable,
+            105,
+            998,
+            149_706_787,
+        ),
         order(&rt, b"o4", Ask::Pay(130), Kind::Add, 104, 2, 149_456_791),
         order(&rt, b"o3", Ask::Sync, Kind::Sync, 103, 999, 149_206_788),
         order(&rt, b"o2", Ask::Set(5), Kind::Set, 101, 5, 148_706_794),
@@ -26,7 +34,15 @@ fn a_payment_that_reaches_the_total(rt: HostRuntime) {
     let a = rt.alloc();
     let row = row(&rt, 100_350, 0, 101, true);
     let orders = [
-        order(&rt, b"o2", Ask::Pay(100_000), Kind::Disable, 101, 998, 148_706_787),
+        order(
+            &rt,
+            b"o2",
+            Ask::Pay(100_000),
+            Kind::Disable,
+            101,
+            998,
+            148_706_787,
+        ),
         paid(&rt, b"o1", 100, 148_456_796),
     ];
     check(&rt, a, &row, &orders, &[], &[]);
