@@ -28,6 +28,9 @@ const KEEPS: [u64; 4] = [0, u64::MAX, 0xffff_ffff, 0x5555_5555_5555_5555];
 /// The stream of the numbers that are drawn.
 const STREAM: u64 = 54;
 
+/// How many calls apart the reads of one `power` are cut: nine times as many and one are the calls of a `power`.
+const READS: u32 = 57;
+
 /// More calls than any story makes of the flash.
 const MOST_CALLS: u32 = 4096;
 
@@ -86,15 +89,15 @@ fn verdict_before(lines: u64, next: Option<&str>) -> Verdict {
     }
 }
 
-/// Judges each first part of `told`, and the whole of it also by the program. It is the log of a run up to the line
-/// before `wrong`, and from there on it isn't.
-fn judge(
+/// Hands `told` to one check, judges each first part of it, and tells how many lines it has. It is the log of a run up to
+/// the line before `wrong`, and from there on it isn't.
+fn judge_parts(
     rt: &impl Abort,
     alloc: Global,
     log: &str,
     told: &str,
     wrong: Option<u64>,
-) -> Result<(), Memory> {
+) -> Result<u64, Memory> {
     let mut check: Check<Stride<7>> = Check::new(alloc)?;
     let mut following = log.lines();
     let mut lines = 0u64;
@@ -109,12 +112,29 @@ fn judge(
         };
         assert_eq!(rt; check.verdict(), want, "{lines}\n{told}");
     }
-    let text = said(rt, alloc, &mut MemFlash::erased(), &CHECK, told)?;
-    let want = match wrong {
+    Ok(lines)
+}
+
+/// The line of a verdict: `no` and the line that decides, or `yes` and how many lines there are.
+fn verdict_line(alloc: Global, wrong: Option<u64>, lines: u64) -> Result<String, Memory> {
+    let line = match wrong {
         Some(wrong) => format!(in alloc; "no {wrong}\n"),
         None => format!(in alloc; "yes {lines}\n"),
     };
-    let want = want.map_err(|_| Memory)?;
+    line.map_err(|_| Memory)
+}
+
+/// Judges each first part of `told`, and the whole of it also by the program.
+fn judge(
+    rt: &impl Abort,
+    alloc: Global,
+    log: &str,
+    told: &str,
+    wrong: Option<u64>,
+) -> Result<(), Memory> {
+    let lines = judge_parts(rt, alloc, log, told, wrong)?;
+    let text = said(rt, alloc, &mut MemFlash::erased(), &CHECK, told)?;
+    let want = verdict_line(alloc, wrong, lines)?;
     assert_eq!(rt; text.as_str(), want.as_str(), "{told}");
     Ok(())
 }
@@ -177,7 +197,7 @@ fn cut_log(rt: &impl Abort, alloc: Global, input: &str, cut: Cut) -> Result<Stri
 
 /// Judges the logs of these lines where the flash fails at the call behind so many, for each kind of what the cut
 /// keeps; of a `power`, whose cut changes nothing on the flash, for one. Tells how many calls the next cut comes
-/// behind, or none where the run had no cut: it is the next one, but for two cuts of one `power` that are 31 calls
+/// behind, or none where the run had no cut: it is the next one, but for two cuts of one `power` that are 57 calls
 /// apart, between which none is judged.
 fn judge_cuts(
     rt: &impl Abort,
@@ -196,7 +216,7 @@ fn judge_cuts(
                 return Ok(None);
             }
             Place::Power => {
-                let further = after.saturating_add(31);
+                let further = after.saturating_add(READS);
                 let cut = Cut {
                     after: further,
                     keep,

@@ -34,11 +34,12 @@ IsIn line (first ∷ lines) = (line ≡ first) ⊎ IsIn line lines
 abbrev pub SameLines : List (List ℕ) → List (List ℕ) → Type 0
 SameLines xs ys = (line : List ℕ) → (IsIn line xs ↔ IsIn line ys)
 
--- The last word counts these places, each of them once: of each of them a sale was reported, each has an order of the shop, and no
--- two of them have one order.
+-- The last word counts these places, each of them once: of each of them a sale was reported, each has an order of the
+-- shop, and no two of them have one order.
 pub record CountsTokens (office : Office) : Type 0 where
   pub places : List Key
   pub once : AreReportedOnce places office.reports
   pub counted : totals_of office.reports ≡ totals_at places office.reports
-  pub sold : (place : Key) → has_key places place ≡ true → IsSome (order_of office.tables (id_of place.sheet place.place))
+  pub sold : (place : Key) → has_key places place ≡ true
+      → IsSome (order_of office.tables (id_of place.sheet place.place))
   pub differ : (a b : Key) → id_of a.sheet a.place ≡ id_of b.sheet b.place → a ≡ b

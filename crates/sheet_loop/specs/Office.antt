@@ -52,7 +52,8 @@ abbrev pub holds_order : Answer → Bool
 holds_order (answer_is.Order order form) = true
 holds_order _ = false
 
--- The payments for the tokens of a sheet from a place on, so many of them: one after the other, up to the first one that is refused.
+-- The payments for the tokens of a sheet from a place on, so many of them: one after the other, up to the first one
+-- that is refused.
 abbrev pub payments : (List ℕ → ℕ → ℕ) → Sheet → (place left : ℕ) → Office → List Answered
 payments next sheet place zero office = []
 payments next sheet place (suc left) office =
@@ -81,7 +82,8 @@ kept sold office =
       };
     }
 
--- A sale is reported of the token whose order this is. Where the shop has no such order, the report is refused, and isn't kept.
+-- A sale is reported of the token whose order this is. Where the shop has no such order, the report is refused, and
+-- isn't kept.
 abbrev pub reported : Sold → Option Order → Office → List Answered
 reported sold None office = says (text_of_answer answer_is.NoOrder) office
 reported sold (Some order) office = kept sold office ∷ []
@@ -89,14 +91,16 @@ reported sold (Some order) office = kept sold office ∷ []
 -- The answers to what a line asks for.
 abbrev pub answers_of_ask : (List ℕ → ℕ → ℕ) → Ask → Office → List Answered
 answers_of_ask next (ask_is.Sheet sheet) office = payments next sheet 1 sheet.tokens office
-answers_of_ask next (ask_is.Sold sold) office = reported sold (order_of office.tables (id_of sold.sheet sold.place)) office
+answers_of_ask next (ask_is.Sold sold) office =
+    reported sold (order_of office.tables (id_of sold.sheet sold.place)) office
 
 -- The answers to a line of JSON: where it asks for nothing, the one that says why.
 abbrev pub answers_of_reading : (List ℕ → ℕ → ℕ) → Result Ask TextFault → Office → List Answered
 answers_of_reading next (Ok ask) office = answers_of_ask next ask office
 answers_of_reading next (Err fault) office = says (text_of_fault fault) office
 
--- The answers to a line's text: none to an empty one. A line that doesn't begin with `{` is one of a device, and there is none here.
+-- The answers to a line's text: none to an empty one. A line that doesn't begin with `{` is one of a device, and there
+-- is none here.
 abbrev pub answers_of_text : (List ℕ → ℕ → ℕ) → List ℕ → Office → List Answered
 answers_of_text next [] office = []
 answers_of_text next (c ∷ cs) office =

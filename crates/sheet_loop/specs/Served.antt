@@ -27,15 +27,15 @@ pub record StandsAs (keeper : KeeperView) (book : Book) (office : Office) : Type
   pub reports : StandsFor book office.reports
 
 -- All answers were given: they are written, and keeper and book stand for what is behind them.
-pub record GaveAll (start : Office) (given left : List Answered) (old : SinkView) (keeper : KeeperView) (book : Book) (new : SinkView)
-    : Type 0 where
+pub record GaveAll (start : Office) (given left : List Answered) (old : SinkView) (keeper : KeeperView) (book : Book)
+    (new : SinkView) : Type 0 where
   pub all : left ≡ []
   pub stands : StandsAs keeper book (behind start given)
   pub leaves : LeavesWhole start given old keeper new
 
 -- What stands behind the answers that were given, and those that are left.
-abbrev pub GaveBy : Result (Unit {0}) LineFault → Office → (given left : List Answered) → SinkView → KeeperView → Book → SinkView
-    → Type 0
+abbrev pub GaveBy : Result (Unit {0}) LineFault → Office → (given left : List Answered) → SinkView → KeeperView → Book
+    → SinkView → Type 0
 GaveBy (Ok done) start given left old keeper book new = GaveAll start given left old keeper book new
 GaveBy (Err fault.Write) start given left old keeper book new = LeavesCut given left old keeper new
 GaveBy (Err fault.Keep) start given left old keeper book new = LeavesDoubt start given left old keeper new
@@ -50,7 +50,7 @@ pub record Gave (answers : List Answered) (outcome : Result (Unit {0}) LineFault
   pub by : GaveBy outcome start given left old keeper book new
 
 -- Whatever keeper and book stand for, that became of the answers.
-abbrev pub Gives : (Office → List Answered) → Result (Unit {0}) LineFault → (keeper : KeeperView) (book : Book) (old : SinkView)
-    → (keeper' : KeeperView) (book' : Book) (new : SinkView) → Type 0
+abbrev pub Gives : (Office → List Answered) → Result (Unit {0}) LineFault → (keeper : KeeperView) (book : Book)
+    (old : SinkView) → (keeper' : KeeperView) (book' : Book) (new : SinkView) → Type 0
 Gives answers outcome keeper book old keeper' book' new =
     (office : Office) → StandsAs keeper book office → Gave (answers office) outcome office old keeper' book' new

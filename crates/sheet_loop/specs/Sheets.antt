@@ -8,16 +8,17 @@ use Rattle.run_spec.specs.declared.Status.TheVariants as status
 use Rattle.run_spec.specs.Lines.{whole_lines, all_lines}
 use Rattle.run_spec.specs.Ran.{IsAmong}
 use Rattle.line_loop.specs.Outside.{Outside}
-use Rattle.sheet_loop.specs.Office.{Office, Answered, answers_of_line, behind, answers_to, last_word, answers_with_last, line_of, text_of}
+use Rattle.sheet_loop.specs.Office.{Office, Answered, answers_of_line, behind, answers_to, last_word}
+use Rattle.sheet_loop.specs.Office.{answers_with_last, line_of, text_of}
 
 -- Before the first line: these tables, and no report.
 abbrev pub opened : Tables → Office
 opened tables = record { tables = tables; reports = [] }
 
--- A line failed at one of its answers. Given are all answers to the lines before it, and its own up to that one; left are its own
--- from that one on.
-pub record BreaksOff (next : List ℕ → ℕ → ℕ) (ended : Bool) (taken : List ℕ) (start : Office) (given left : List Answered)
-    : Type 0 where
+-- A line failed at one of its answers. Given are all answers to the lines before it, and its own up to that one; left
+-- are its own from that one on.
+pub record BreaksOff (next : List ℕ → ℕ → ℕ) (ended : Bool) (taken : List ℕ) (start : Office)
+    (given left : List Answered) : Type 0 where
   pub earlier : List (List ℕ)
   pub line : List ℕ
   pub place : IsAmong ended taken earlier line
@@ -26,8 +27,8 @@ pub record BreaksOff (next : List ℕ → ℕ → ℕ) (ended : Bool) (taken : L
   pub line_has : answers_of_line next line (behind start (answers_to next earlier start)) ≡ own ++ left
 
 -- The last word alone is left, behind all lines of an input that has ended.
-pub record LacksLast (next : List ℕ → ℕ → ℕ) (ended : Bool) (taken : List ℕ) (start : Office) (given left : List Answered)
-    : Type 0 where
+pub record LacksLast (next : List ℕ → ℕ → ℕ) (ended : Bool) (taken : List ℕ) (start : Office)
+    (given left : List Answered) : Type 0 where
   pub told : ended ≡ true
   pub given_are : given ≡ answers_to next (all_lines taken) start
   pub left_is : left ≡ last_word (behind start given) ∷ []
@@ -52,7 +53,8 @@ pub record LeavesWhole (start : Office) (given : List Answered) (old : SinkView)
   pub tables : keeper.tables ≡ Some (behind start given).tables
   pub written : new.written ≡ old.written ++ text_of given
 
--- The sink failed at the first answer that is left: what it answers was done, and of its line fewer bytes were written than it has.
+-- The sink failed at the first answer that is left: what it answers was done, and of its line fewer bytes were written
+-- than it has.
 pub record LeavesCut (given left : List Answered) (old : SinkView) (keeper : KeeperView) (new : SinkView) : Type 0 where
   pub failed : Answered
   pub later : List Answered
@@ -62,9 +64,10 @@ pub record LeavesCut (given left : List Answered) (old : SinkView) (keeper : Kee
   pub fewer : more < length (line_of failed)
   pub written : new.written ≡ old.written ++ (text_of given ++ take more (line_of failed))
 
--- The keeper failed at the first answer that is left: nothing was written of it, and the tables are as before it, or have its whole change.
-pub record LeavesDoubt (start : Office) (given left : List Answered) (old : SinkView) (keeper : KeeperView) (new : SinkView)
-    : Type 0 where
+-- The keeper failed at the first answer that is left: nothing was written of it, and the tables are as before it, or
+-- have its whole change.
+pub record LeavesDoubt (start : Office) (given left : List Answered) (old : SinkView) (keeper : KeeperView)
+    (new : SinkView) : Type 0 where
   pub failed : Answered
   pub later : List Answered
   pub left_are : left ≡ failed ∷ later

@@ -114,18 +114,19 @@ impl<M: Mixer> Agency<M> {
 
     // A report of a token that the shop issued is kept, and answered by the sale that counts.
     fn keep<K: Sink>(&mut self, sold: &Sold, sink: &mut K) -> Result<(), LineFault>
-        ensures causes { (keeper : ℕ) → HasCauses result keeper keeper (K.view sink.old).faults (K.view sink.new).faults }
+        ensures causes { (keeper : ℕ) → HasCauses result keeper keeper (K.view sink.old).faults
+            (K.view sink.new).faults }
         ensures gives { (keeper : KeeperView) → Gives (λ office. kept sold.now office ∷ []) result
             keeper self.old.book (K.view sink.old) keeper self.new.book (K.view sink.new) }
     {
-        let (sale, money) = match self.book.report(&sold.sheet, sold.place, &sold.sale, sold.money) {
+        let (sale, money) = match self
+            .book
+            .report(&sold.sheet, sold.place, &sold.sale, sold.money)
+        {
             Ok(kept) => kept,
             Err(Memory) => return Err(LineFault::Memory),
         };
-        as_line_fault(write_line(
-            sink,
-            sold_line(&sold.sheet, sold.place, &sale, money),
-        ))
+        as_line_fault(write_line(sink, sold_line(&sold.sheet, sold.place, &sale, money)))
     }
 
     // A sale is reported. The report is kept only where the shop has an order of the token.

@@ -1,4 +1,5 @@
-// The lines of agents: sheets of tokens are sold ahead, sales are reported, and what all reports come to is the last word.
+// The lines of agents: sheets of tokens are sold ahead, sales are reported, and what all reports come to is the last
+// word.
 #![tactic(auto)]
 
 mod agency;

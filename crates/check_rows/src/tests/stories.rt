@@ -100,34 +100,34 @@ show
 #[test]
 fn logs_of_tokens_time_and_a_raise(rt: HostRuntime) -> Result<(), Memory> {
     let tally = judge_story(&rt, rt.alloc(), TOKENS, 1)?;
-    assert!(rt; has_tried(&tally, 80), "{tally:?}");
+    assert!(rt; has_tried(&tally, 60), "{tally:?}");
     Ok(())
 }
 
 #[test]
 fn logs_of_a_lock_out(rt: HostRuntime) -> Result<(), Memory> {
     let tally = judge_story(&rt, rt.alloc(), LOCK_OUT, 2)?;
-    assert!(rt; has_tried(&tally, 80), "{tally:?}");
+    assert!(rt; has_tried(&tally, 60), "{tally:?}");
     Ok(())
 }
 
 #[test]
 fn logs_of_more_entries_in_a_line(rt: HostRuntime) -> Result<(), Memory> {
     let tally = judge_story(&rt, rt.alloc(), KEYS, 3)?;
-    assert!(rt; has_tried(&tally, 80), "{tally:?}");
+    assert!(rt; has_tried(&tally, 60), "{tally:?}");
     Ok(())
 }
 
 #[test]
 fn logs_of_payments_and_their_tokens(rt: HostRuntime) -> Result<(), Memory> {
     let tally = judge_story(&rt, rt.alloc(), PAYMENTS, 4)?;
-    assert!(rt; has_tried(&tally, 80), "{tally:?}");
+    assert!(rt; has_tried(&tally, 60), "{tally:?}");
     Ok(())
 }
 
 #[test]
 fn logs_of_refused_lines(rt: HostRuntime) -> Result<(), Memory> {
     let tally = judge_story(&rt, rt.alloc(), REFUSALS, 5)?;
-    assert!(rt; has_tried(&tally, 80), "{tally:?}");
+    assert!(rt; has_tried(&tally, 60), "{tally:?}");
     Ok(())
 }
