@@ -1,1 +1,3 @@
 pub mod Flaws
+pub mod Sums
+pub mod Bounds

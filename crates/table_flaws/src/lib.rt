@@ -2,8 +2,15 @@
 //! laws promise of sound tables holds.
 #![tactic(auto)]
 
+mod booking;
+mod checking;
+mod finding;
 mod flaw;
 mod laws;
 
+pub use finding::flaws_of;
 pub use flaw::Flaw;
 pub use laws::sound_tables_have_no_flaw;
+
+#[cfg(test)]
+mod tests;
