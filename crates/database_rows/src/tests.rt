@@ -2,6 +2,7 @@
 ghost use Rattle.std.specs.Prelude.{◌≡◌, ◌≤◌, ◌<◌, ◌*◌, ◌^◌, ◌↔◌, true, IsTrue, length};
 ghost use Rattle.ledger_spec.specs.Tables.{RowIsInRange, OrderIsInRange, AskIsInRange, ChangeIsInRange, is_limit};
 
+mod causes;
 mod kept;
 mod plain;
 mod stored;
@@ -226,6 +227,18 @@ fn has_orders(rt: &impl Abort, alloc: Global, keeper: &mut SqliteKeeper<'_>, wan
     assert!(rt; !want.is_empty());
     let found = keeper
         .orders_of(alloc, &want[0].serial)
+        .expect(rt, "the orders");
+    assert_eq!(rt; found.len(), want.len());
+    for i in 0..want.len() {
+        is_order(rt, &found[i], &want[i]);
+    }
+}
+
+// The orders of a device, the newest first, are these.
+fn has_orders_back(rt: &impl Abort, alloc: Global, keeper: &mut SqliteKeeper<'_>, want: &[Order]) {
+    assert!(rt; !want.is_empty());
+    let found = keeper
+        .orders_back(alloc, &want[0].serial)
         .expect(rt, "the orders");
     assert_eq!(rt; found.len(), want.len());
     for i in 0..want.len() {

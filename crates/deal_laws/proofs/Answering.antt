@@ -1,5 +1,5 @@
 -- An order that answers a command is one for it.
-use Rattle.std.proofs.Common.{◌≡◌, ℕ, ◌+◌, ◌/◌, ◌%◌, ◌==◌, nat_lt, Bool, true, false, cond, List, Option, Some, None, Result, Ok, Err, refl, ap, subst, ◌∙◌, eqb-true}
+use Rattle.std.proofs.Common.{◌≡◌, ℕ, ◌+◌, ◌/◌, ◌%◌, ◌==◌, nat_le, nat_lt, Bool, true, false, cond, List, Option, Some, None, Result, Ok, Err, refl, ap, subst, ◌∙◌, eqb-true}
 use Rattle.std.proofs.lemmas.Bool.{and_parts}
 use Rattle.paygo_spec.specs.declared.Form.{Form}
 use Rattle.paygo_spec.specs.declared.TheConstants.{LAST}
@@ -15,7 +15,7 @@ use Rattle.ledger_spec.specs.declared.Kind.TheVariants as kind_is
 use Rattle.ledger_spec.specs.declared.Order.{Order}
 use Rattle.ledger_spec.specs.declared.PriceChange.{PriceChange}
 use Rattle.ledger_spec.specs.declared.Row.{Row}
-use Rattle.ledger_spec.specs.Ledger.{done, same_ask, agrees, buys, pays, issue_for, offered, order_at, issued, issued_at, is_retry, form_for, asked, asked_of, enrolled, told_order, told_row, raises, raised_at, repriced, changed_of, changed_at, change_to, IsCommand}
+use Rattle.ledger_spec.specs.Ledger.{done, same_ask, agrees, buys, pays, issue_for, offered, order_at, issued, issued_at, is_retry, form_for, asked, asked_of, enrolled, told_order, told_row, raises, raised_at, repriced, changed_of, changed_at, change_to, quoted, quoted_for, quoted_at, skipped, skipped_at, lifted_at, IsCommand}
 use Rattle.ledger_spec.specs.Issuing.{pick}
 use Rattle.ledger_spec.specs.Names.{same_name}
 use Rattle.ledger_spec.specs.Tables.{Tables, row_of, order_of, change_of, price_at, AskIsInRange, Kept}
@@ -148,6 +148,31 @@ module _ (next : List ℕ → ℕ → ℕ) (t : Tables) (order : Order) (form : 
   reprice_no change None e = cc
   reprice_no change (Some row) e = kept_no change row (change_of t change.serial change.from) e
 
+  quoted_at_no : (row : Row) (issue : Issue) (count : Option ℕ) → Answers (quoted_at row issue count) → ⊥
+  quoted_at_no row issue None e = cc
+  quoted_at_no row issue (Some count) e = cc
+
+  quoted_for_no : (row : Row) (ask : Ask) (what : Result Issue Answer) → offered t row ask ≡ what → Answers (quoted_for next row what) → ⊥
+  quoted_for_no row ask (Err refusal) what_is e =
+      issues_none (price_at t row (row.last + 1)) row ask order form (what_is ∙ ap (λ (a : Answer). refused a) e)
+  quoted_for_no row ask (Ok issue) what_is e = quoted_at_no row issue (pick (next issue.row.key) issue.row.start issue.row.limit issue.row.last issue.kind issue.value) e
+
+  quoted_no : (amount : ℕ) (found : Option Row) → Answers (quoted next t amount found) → ⊥
+  quoted_no amount None e = cc
+  quoted_no amount (Some row) e = quoted_for_no row (asks.Pay amount) (offered t row (asks.Pay amount)) refl e
+
+  lifted_no : (to : ℕ) (row : Row) (within : Bool) → Answers (lifted_at t to row within).answer → ⊥
+  lifted_no to row true e = cc
+  lifted_no to row false e = cc
+
+  skipped_row_no : (to : ℕ) (row : Row) (above : Bool) → Answers (skipped_at t to row above).answer → ⊥
+  skipped_row_no to row true e = lifted_no to row (nat_le to row.limit) e
+  skipped_row_no to row false e = cc
+
+  skipped_no : (to : ℕ) (found : Option Row) → Answers (skipped t to found).answer → ⊥
+  skipped_no to None e = cc
+  skipped_no to (Some row) e = skipped_row_no to row (nat_lt row.last to) e
+
   pub answers_for : (command : Command) → Kept t → IsCommand command → Answers (done next t command).answer → IsFor command order
   answers_for (command_is.Enroll enrol) kept may e = absurd (enrol_no enrol (row_of t enrol.serial) e)
   answers_for (command_is.Pay id serial amount) kept may e = asked_for id serial (asks.Pay amount) (row_of t serial) refl kept may e
@@ -158,3 +183,5 @@ module _ (next : List ℕ → ℕ → ℕ) (t : Tables) (order : Order) (form : 
   answers_for (command_is.Show serial) kept may e = absurd (show_no (row_of t serial) e)
   answers_for (command_is.Raise serial) kept may e = absurd (raises_no (row_of t serial) e)
   answers_for (command_is.Price serial from price) kept may e = absurd (reprice_no (change_to serial from price) (row_of t serial) e)
+  answers_for (command_is.Quote serial amount) kept may e = absurd (quoted_no amount (row_of t serial) e)
+  answers_for (command_is.Skip serial to) kept may e = absurd (skipped_no to (row_of t serial) e)

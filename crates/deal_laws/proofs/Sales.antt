@@ -1,5 +1,5 @@
 -- What a command of the shop is in a deal.
-use Rattle.std.proofs.Common.{◌≡◌, ℕ, ◌+◌, ◌<◌, ◌==◌, true, false, Bool, cond, filter, inl, inr, List, [], ◌∷◌, Option, Some, None, Result, Ok, Err, refl, sym, ap, ◌∙◌, subst, arith}
+use Rattle.std.proofs.Common.{◌≡◌, ℕ, ◌+◌, ◌<◌, ◌==◌, nat_le, nat_lt, true, false, Bool, cond, filter, inl, inr, List, [], ◌∷◌, Option, Some, None, Result, Ok, Err, refl, sym, ap, ◌∙◌, subst, arith}
 use Rattle.paygo_spec.specs.declared.Config.{Config}
 use Rattle.paygo_spec.specs.declared.Form.{Form}
 use Rattle.paygo_spec.specs.declared.TheConstants.{LAST}
@@ -14,7 +14,7 @@ use Rattle.ledger_spec.specs.declared.Issue.{Issue}
 use Rattle.ledger_spec.specs.declared.Order.{Order}
 use Rattle.ledger_spec.specs.declared.PriceChange.{PriceChange}
 use Rattle.ledger_spec.specs.declared.Row.{Row}
-use Rattle.ledger_spec.specs.Ledger.{Done, done, enrolled, asked, asked_of, issued, issued_at, offered, order_at, raises, raised_at, repriced, changed_of, changed_at, change_to}
+use Rattle.ledger_spec.specs.Ledger.{Done, done, enrolled, asked, asked_of, issued, issued_at, offered, order_at, raises, raised_at, repriced, changed_of, changed_at, change_to, skipped, skipped_at, lifted_at}
 use Rattle.ledger_spec.specs.Issuing.{pick}
 use Rattle.ledger_spec.specs.Names.{same_name}
 use Rattle.ledger_spec.specs.Tables.{Tables, row_of, order_of, change_of}
@@ -74,6 +74,18 @@ module _ (next : List ℕ → ℕ → ℕ) (t : Tables) where
   repriced_sale change None = NoSale refl
   repriced_sale change (Some row) = changed_of_sale change row (change_of t change.serial change.from)
 
+  lifted_sale : (to : ℕ) (row : Row) (within : Bool) → Sale t (lifted_at t to row within)
+  lifted_sale to row true = NoSale refl
+  lifted_sale to row false = NoSale refl
+
+  skipped_row_sale : (to : ℕ) (row : Row) (above : Bool) → Sale t (skipped_at t to row above)
+  skipped_row_sale to row true = lifted_sale to row (nat_le to row.limit)
+  skipped_row_sale to row false = NoSale refl
+
+  skipped_sale : (to : ℕ) (found : Option Row) → Sale t (skipped t to found)
+  skipped_sale to None = NoSale refl
+  skipped_sale to (Some row) = skipped_row_sale to row (nat_lt row.last to)
+
   pub sale : (command : Command) → Sale t (done next t command)
   sale (command_is.Enroll enrol) = enrolled_sale enrol (row_of t enrol.serial)
   sale (command_is.Pay id serial amount) = asked_sale id serial (asks.Pay amount) (row_of t serial)
@@ -84,6 +96,8 @@ module _ (next : List ℕ → ℕ → ℕ) (t : Tables) where
   sale (command_is.Show serial) = NoSale refl
   sale (command_is.Raise serial) = raises_sale (row_of t serial)
   sale (command_is.Price serial from price) = repriced_sale (change_to serial from price) (row_of t serial)
+  sale (command_is.Quote serial amount) = NoSale refl
+  sale (command_is.Skip serial to) = skipped_sale to (row_of t serial)
 
 -- the counts of orders fall
 falls_has : (bound : ℕ) (orders : List Order) (order : Order) → FallBelow bound orders → Has orders order → order.count < bound

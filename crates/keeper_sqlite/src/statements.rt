@@ -28,6 +28,12 @@ SELECT id, serial, ask, asked, kind, count, value, token
 FROM token_order WHERE serial = ?1 ORDER BY count, id
 ";
 
+// The orders of a serial, the newest first: a new order has the greatest `rowid`.
+pub(crate) const ORDERS_BACK: &str = "
+SELECT id, serial, ask, asked, kind, count, value, token
+FROM token_order WHERE serial = ?1 ORDER BY rowid DESC
+";
+
 // The changes of a serial's price, by the count from which they hold.
 pub(crate) const PRICES: &str = "
 SELECT serial, from_count, price FROM price_change WHERE serial = ?1 ORDER BY from_count
@@ -54,6 +60,9 @@ VALUES (?1, ?2, ?3, ?4, ?5, ?6, ?7, ?8)
 
 // The limit of a serial's row is raised.
 pub(crate) const RAISE: &str = "INSERT INTO raised (serial) VALUES (?1)";
+
+// The last count of a serial's row is lifted, where it is lower.
+pub(crate) const SKIP: &str = "UPDATE device SET last = ?2 WHERE serial = ?1 AND last < ?2";
 
 // A new change of a price.
 pub(crate) const ADD_PRICE: &str = "

@@ -1,14 +1,17 @@
 // The tables over any store: each call of a keeper as statements.
 ghost use Rattle.std.specs.Prelude.{◌≡◌, ◌↔◌, IsTrue, IfOk, IfSome, All, Ok, Err};
-ghost use Rattle.ledger_spec.specs.declared.KeeperFault.TheVariants.{Failed, Memory};
 ghost use Rattle.ledger_spec.specs.Sorted.{rises, order_before, row_before};
 ghost use Rattle.ledger_spec.specs.Tables.{RowIsInRange, OrderIsInRange, ChangeIsInRange, change_before};
 
-use crate::found::{order_found, orders_found, prices_found, row_found, rows_found};
-use crate::statements::{
-    ADD_DEVICE, ADD_ORDER, ADD_PRICE, DEVICE, DEVICES, ORDER, ORDERS, PRICES, PUT_DEVICE, RAISE,
+use crate::cause::{Cause, Fault, to_fault};
+use crate::found::{
+    order_found, orders_back_found, orders_found, prices_found, row_found, rows_found,
 };
-use ledger_spec::{KeeperFault, Name, Order, PriceChange, Row};
+use crate::statements::{
+    ADD_DEVICE, ADD_ORDER, ADD_PRICE, DEVICE, DEVICES, ORDER, ORDERS, ORDERS_BACK, PRICES,
+    PUT_DEVICE, RAISE, SKIP,
+};
+use ledger_spec::{Name, Order, PriceChange, Row};
 use paygo_spec::{Form, LAST};
 use shop_schema::SchemaError;
 use sqlite::{Alter, Connection, Error, ErrorCode, Transaction, params};
@@ -55,9 +58,9 @@ impl<S: Alter> TablesOver<S> {
     ///
     /// # Errors
     ///
-    /// `Failed` where the database refuses the statement, and where it finds another row, two of them, or one out of range;
+    /// `Caused` where the database refuses the statement, and where it finds another row, two of them, or one out of range;
     /// `Memory` where there is none.
-    pub fn device(&mut self, serial: &Name) -> Result<Option<Row>, KeeperFault>
+    pub fn device(&mut self, serial: &Name) -> Result<Option<Row>, Fault>
         ensures asked { IfOk result (λ found. IfSome found (λ row. row.serial ≡ serial.now)) }
         ensures in_range { IfOk result (λ found. IfSome found RowIsInRange) }
     {
@@ -70,7 +73,7 @@ impl<S: Alter> TablesOver<S> {
     /// # Errors
     ///
     /// As for `device`. An order whose device has no row is a fault too.
-    pub fn order(&mut self, id: &Name) -> Result<Option<(Order, Form)>, KeeperFault>
+    pub fn order(&mut self, id: &Name) -> Result<Option<(Order, Form)>, Fault>
         ensures asked { IfOk result (λ found. IfSome found (λ f. f.0.id ≡ id.now)) }
         ensures in_range { IfOk result (λ found. IfSome found (λ f. OrderIsInRange f.0)) }
     {
@@ -82,9 +85,9 @@ impl<S: Alter> TablesOver<S> {
     ///
     /// # Errors
     ///
-    /// `Failed` where the database refuses the statement, and where it finds an order of another serial or out of range, or
+    /// `Caused` where the database refuses the statement, and where it finds an order of another serial or out of range, or
     /// finds them in another order; `Memory` where there is none.
-    pub fn orders_of(&mut self, alloc: Global, serial: &Name) -> Result<Vec<Order>, KeeperFault>
+    pub fn orders_of(&mut self, alloc: Global, serial: &Name) -> Result<Vec<Order>, Fault>
         ensures asked { IfOk result (λ list. All (λ order. order.serial ≡ serial.now) list.items) }
         ensures ordered { IfOk result (λ list. IsTrue (rises order_before list.items)) }
         ensures in_range { IfOk result (λ list. All OrderIsInRange list.items) }
@@ -93,12 +96,26 @@ impl<S: Alter> TablesOver<S> {
         orders_found(alloc, found.as_slice(), serial)
     }
 
+    /// The orders of the serial as they were added, the newest first.
+    ///
+    /// # Errors
+    ///
+    /// `Caused` where the database refuses the statement, and where it finds an order of another serial or out of range;
+    /// `Memory` where there is none.
+    pub fn orders_back(&mut self, alloc: Global, serial: &Name) -> Result<Vec<Order>, Fault>
+        ensures asked { IfOk result (λ list. All (λ order. order.serial ≡ serial.now) list.items) }
+        ensures in_range { IfOk result (λ list. All OrderIsInRange list.items) }
+    {
+        let found = query(&mut self.conn, ORDERS_BACK, text(serial))?;
+        orders_back_found(alloc, found.as_slice(), serial)
+    }
+
     /// All rows, by serial.
     ///
     /// # Errors
     ///
     /// As for `orders_of`.
-    pub fn rows(&mut self, alloc: Global) -> Result<Vec<Row>, KeeperFault>
+    pub fn rows(&mut self, alloc: Global) -> Result<Vec<Row>, Fault>
         ensures ordered { IfOk result (λ list. IsTrue (rises row_before list.items)) }
         ensures in_range { IfOk result (λ list. All RowIsInRange list.items) }
     {
@@ -111,11 +128,7 @@ impl<S: Alter> TablesOver<S> {
     /// # Errors
     ///
     /// As for `orders_of`.
-    pub fn prices_of(
-        &mut self,
-        alloc: Global,
-        serial: &Name,
-    ) -> Result<Vec<PriceChange>, KeeperFault>
+    pub fn prices_of(&mut self, alloc: Global, serial: &Name) -> Result<Vec<PriceChange>, Fault>
         ensures asked { IfOk result (λ list. All (λ change. change.serial ≡ serial.now) list.items) }
         ensures ordered { IfOk result (λ list. IsTrue (rises change_before list.items)) }
         ensures in_range { IfOk result (λ list. All ChangeIsInRange list.items) }
@@ -128,92 +141,102 @@ impl<S: Alter> TablesOver<S> {
     ///
     /// # Errors
     ///
-    /// `Failed` where the database refuses it, as where the serial has a row; `Memory` where there is none.
-    pub fn add_device(&mut self, row: &Row) -> Result<(), KeeperFault> {
+    /// `Caused` where the database refuses it, as where the serial has a row; `Memory` where there is none.
+    pub fn add_device(&mut self, row: &Row) -> Result<(), Fault> {
         if !self.conn.is_autocommit() {
-            return Err(KeeperFault::Failed);
+            return Err(unended());
         }
         let mut tx = self.conn.transaction();
         insert_device(&mut tx, row)?;
         if row.limit != LAST {
             insert_raised(&mut tx, &row.serial)?;
         }
-        tx.commit().map_err(fault)
+        tx.commit().map_err(to_fault)
     }
 
     /// Adds an order, and puts the row in the place of that of its serial, in one transaction.
     ///
     /// # Errors
     ///
-    /// `Failed` where the database refuses it, as where the id has an order, and where the serial has no row with the limit of
+    /// `Caused` where the database refuses it, as where the id has an order, and where the serial has no row with the limit of
     /// this one; `Memory` where there is none.
-    pub fn add_order(&mut self, order: &Order, row: &Row) -> Result<(), KeeperFault> {
+    pub fn add_order(&mut self, order: &Order, row: &Row) -> Result<(), Fault> {
         if !self.conn.is_autocommit() {
-            return Err(KeeperFault::Failed);
+            return Err(unended());
         }
         let mut tx = self.conn.transaction();
         insert_order(&mut tx, order)?;
         put_device(&mut tx, row)?;
-        tx.commit().map_err(fault)
+        tx.commit().map_err(to_fault)
     }
 
     /// Raises the limit of the row of the serial.
     ///
     /// # Errors
     ///
-    /// `Failed` where the database refuses it, and where the serial has no row or one that is raised; `Memory` where there is
+    /// `Caused` where the database refuses it, and where the serial has no row or one that is raised; `Memory` where there is
     /// none.
-    pub fn raise(&mut self, serial: &Name) -> Result<(), KeeperFault> {
+    pub fn raise(&mut self, serial: &Name) -> Result<(), Fault> {
         match self.device(serial)? {
             Some(row) if row.limit == LAST => self.write_raised(serial),
-            _ => Err(KeeperFault::Failed),
+            _ => Err(Fault::Caused(Cause::Unwritten)),
         }
     }
 
     // Raises the limit of a serial that has a row with the lower one.
-    fn write_raised(&mut self, serial: &Name) -> Result<(), KeeperFault> {
+    fn write_raised(&mut self, serial: &Name) -> Result<(), Fault> {
         if !self.conn.is_autocommit() {
-            return Err(KeeperFault::Failed);
+            return Err(unended());
         }
         let mut tx = self.conn.transaction();
         insert_raised(&mut tx, serial)?;
-        tx.commit().map_err(fault)
+        tx.commit().map_err(to_fault)
+    }
+
+    /// Lifts the last count of the row of the serial.
+    ///
+    /// # Errors
+    ///
+    /// `Caused` where the database refuses it, and where the serial has no row with a lower last count; `Memory` where there
+    /// is none.
+    pub fn skip(&mut self, serial: &Name, to: u16) -> Result<(), Fault> {
+        if !self.conn.is_autocommit() {
+            return Err(unended());
+        }
+        let mut tx = self.conn.transaction();
+        lift(&mut tx, serial, to)?;
+        tx.commit().map_err(to_fault)
     }
 
     /// Adds a change of a price.
     ///
     /// # Errors
     ///
-    /// `Failed` where the database refuses it, as where the serial has no row, or a change from that count on; `Memory` where
+    /// `Caused` where the database refuses it, as where the serial has no row, or a change from that count on; `Memory` where
     /// there is none.
-    pub fn add_price(&mut self, change: &PriceChange) -> Result<(), KeeperFault> {
+    pub fn add_price(&mut self, change: &PriceChange) -> Result<(), Fault> {
         if !self.conn.is_autocommit() {
-            return Err(KeeperFault::Failed);
+            return Err(unended());
         }
         let mut tx = self.conn.transaction();
         insert_price(&mut tx, change)?;
-        tx.commit().map_err(fault)
+        tx.commit().map_err(to_fault)
     }
 }
 
-// What a refused statement comes to.
-pub(crate) fn fault(error: Error) -> KeeperFault
-    ensures { (result ≡ KeeperFault.Memory) ↔ (error ≡ Error.SqliteFailure ErrorCode.OutOfMemory) }
-{
-    match error {
-        Error::SqliteFailure(ErrorCode::OutOfMemory) => KeeperFault::Memory,
-        _ => KeeperFault::Failed,
-    }
+// What a write comes to while another transaction hasn't ended.
+fn unended() -> Fault {
+    to_fault(Error::SqliteFailure(ErrorCode::TransactionState))
 }
 
 // What a write comes to that is to write one row.
-fn one_row(written: Result<usize, Error>) -> Result<(), KeeperFault>
+fn one_row(written: Result<usize, Error>) -> Result<(), Fault>
     ensures { (result ≡ Ok tt) ↔ (written ≡ Ok 1) }
 {
     match written {
         Ok(1) => Ok(()),
-        Ok(_) => Err(KeeperFault::Failed),
-        Err(error) => Err(fault(error)),
+        Ok(_) => Err(Fault::Caused(Cause::Unwritten)),
+        Err(error) => Err(to_fault(error)),
     }
 }
 
@@ -232,16 +255,16 @@ fn query<S: Alter>(
     conn: &mut Connection<S>,
     sql: &str,
     name: Option<&str>,
-) -> Result<Vec<sqlite::Row>, KeeperFault> {
-    conn.query_all(sql, params![name]).map_err(fault)
+) -> Result<Vec<sqlite::Row>, Fault> {
+    conn.query_all(sql, params![name]).map_err(to_fault)
 }
 
 // The columns of all rows, by serial.
-fn query_rows<S: Alter>(conn: &mut Connection<S>) -> Result<Vec<sqlite::Row>, KeeperFault> {
-    conn.query_all(DEVICES, &[]).map_err(fault)
+fn query_rows<S: Alter>(conn: &mut Connection<S>) -> Result<Vec<sqlite::Row>, Fault> {
+    conn.query_all(DEVICES, &[]).map_err(to_fault)
 }
 
-fn insert_device<S: Alter>(tx: &mut Transaction<'_, S>, row: &Row) -> Result<(), KeeperFault> {
+fn insert_device<S: Alter>(tx: &mut Transaction<'_, S>, row: &Row) -> Result<(), Fault> {
     let key: &[u8] = &row.key;
     one_row(tx.execute(
         ADD_DEVICE,
@@ -261,7 +284,7 @@ fn insert_device<S: Alter>(tx: &mut Transaction<'_, S>, row: &Row) -> Result<(),
     ))
 }
 
-fn insert_order<S: Alter>(tx: &mut Transaction<'_, S>, order: &Order) -> Result<(), KeeperFault> {
+fn insert_order<S: Alter>(tx: &mut Transaction<'_, S>, order: &Order) -> Result<(), Fault> {
     one_row(tx.execute(
         ADD_ORDER,
         params![
@@ -278,7 +301,7 @@ fn insert_order<S: Alter>(tx: &mut Transaction<'_, S>, order: &Order) -> Result<
 }
 
 // Puts the row in the place of the one with its serial and its limit.
-fn put_device<S: Alter>(tx: &mut Transaction<'_, S>, row: &Row) -> Result<(), KeeperFault> {
+fn put_device<S: Alter>(tx: &mut Transaction<'_, S>, row: &Row) -> Result<(), Fault> {
     let key: &[u8] = &row.key;
     let raised = row.limit != LAST;
     one_row(tx.execute(
@@ -300,14 +323,16 @@ fn put_device<S: Alter>(tx: &mut Transaction<'_, S>, row: &Row) -> Result<(), Ke
     ))
 }
 
-fn insert_raised<S: Alter>(tx: &mut Transaction<'_, S>, serial: &Name) -> Result<(), KeeperFault> {
+fn insert_raised<S: Alter>(tx: &mut Transaction<'_, S>, serial: &Name) -> Result<(), Fault> {
     one_row(tx.execute(RAISE, params![text(serial)]))
 }
 
-fn insert_price<S: Alter>(
-    tx: &mut Transaction<'_, S>,
-    change: &PriceChange,
-) -> Result<(), KeeperFault> {
+// Lifts the last count of the row of a serial, which must be there with a lower one.
+fn lift<S: Alter>(tx: &mut Transaction<'_, S>, serial: &Name, to: u16) -> Result<(), Fault> {
+    one_row(tx.execute(SKIP, params![text(serial), u32::from(to)]))
+}
+
+fn insert_price<S: Alter>(tx: &mut Transaction<'_, S>, change: &PriceChange) -> Result<(), Fault> {
     one_row(tx.execute(
         ADD_PRICE,
         params![

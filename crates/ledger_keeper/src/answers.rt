@@ -13,7 +13,7 @@ pub fn are_orders_of(orders: &[Order], serial: &Name) -> bool
     ensures { IsTrue result ↔ (All (λ order. order.serial ≡ serial.now) orders.now
         × IsTrue (rises order_before orders.now)) }
 {
-    are_for(orders, serial) && do_orders_rise(orders)
+    are_all_of(orders, serial) && do_orders_rise(orders)
 }
 
 /// Whether all of these are changes of the price of the serial, and each holds from a count below that of the next one.
@@ -61,7 +61,8 @@ fn do_changes_rise(changes: &[PriceChange]) -> bool
     true
 }
 
-fn are_for(orders: &[Order], serial: &Name) -> bool
+/// Whether all of these are orders of the serial, in whatever order.
+pub fn are_all_of(orders: &[Order], serial: &Name) -> bool
     ensures { result ≡ list_all (is_for serial.now) orders.now }
 {
     orders.iter().all(|order| order.serial.same(serial))

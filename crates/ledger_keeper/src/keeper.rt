@@ -1,8 +1,9 @@
 // A keeper of the tables by what is seen of it.
-ghost use Rattle.std.specs.Prelude.{◌≡◌, None, IfOk, IfSome, IsSome, IsSomeAnd, IsTrue, All};
+ghost use Rattle.std.specs.Prelude.{◌≡◌, ◌<◌, ◌≤◌, None, IfOk, IfSome, IsSome, IsSomeAnd, IsTrue, All};
 ghost use Rattle.paygo_spec.specs.declared.TheConstants.{LAST};
-ghost use Rattle.ledger_spec.specs.Tables.{row_of, order_of, change_of, prices_for, change_before, with_row, with_order, with_change, with_raised, RowIsInRange, OrderIsInRange, ChangeIsInRange, Kept};
+ghost use Rattle.ledger_spec.specs.Tables.{row_of, order_of, change_of, prices_for, change_before, with_row, with_order, with_change, with_raised, with_lifted, RowIsInRange, OrderIsInRange, ChangeIsInRange, Kept};
 ghost use Rattle.ledger_spec.specs.Sorted.{orders_for, all_rows, rises, order_before, row_before};
+ghost use Rattle.ledger_spec.specs.Replay.{orders_back};
 ghost use Rattle.ledger_spec.specs.Keeper.{KeeperView, Reads, Commits, IsOrderOf};
 
 use ledger_spec::{KeeperFault, Name, Order, PriceChange, Row};
@@ -113,6 +114,28 @@ pub trait Keeper {
         requires { IfSome (view self.old).tables
             (λ tables. IsSomeAnd (row_of tables serial.now) (λ row. row.limit ≡ LAST)) }
         ensures commits { Commits (with_raised serial.now) result (view self.old) (view self.new) };
+
+    /// Lifts the last count of the row of the serial to a greater one, which is at most the row's limit.
+    ///
+    /// # Errors
+    ///
+    /// As for `add_device`: the tables are as before or have the lifted count.
+    fn skip(&mut self, alloc: Global, serial: &Name, to: u16) -> Result<(), KeeperFault>
+        requires { IfSome (view self.old).tables
+            (λ tables. IsSomeAnd (row_of tables serial.now) (λ row. (row.last < to) × (to ≤ row.limit))) }
+        ensures commits { Commits (with_lifted to serial.now) result (view self.old) (view self.new) };
+
+    /// The orders of the serial as they were added, the newest first. Nothing changes.
+    ///
+    /// # Errors
+    ///
+    /// As for `device`.
+    fn orders_back(&mut self, alloc: Global, serial: &Name) -> Result<Vec<Order>, KeeperFault>
+        ensures reads { Reads result (view self.old) (view self.new) }
+        ensures found { IfOk result (λ list. IfSome (view self.old).tables
+            (λ tables. list.items ≡ orders_back tables serial.now)) }
+        ensures asked { IfOk result (λ list. All (λ order. order.serial ≡ serial.now) list.items) }
+        ensures in_range { IfOk result (λ list. All OrderIsInRange list.items) };
 
     /// Adds a change of a price, whose serial has a row and no change from that count on.
     ///

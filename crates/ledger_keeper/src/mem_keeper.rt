@@ -1,16 +1,17 @@
 // A keeper in memory, whose fault is planned.
-ghost use Rattle.std.specs.Prelude.{◌≡◌, ◌≢◌, ◌+◌, ◌-◌, ◌^◌, ◌≤◌, length, min, true, false, Some, None, ◌∷◌, [], Ok, Err, IfOk, IfSome, IfNone, IsSome, IsTrue, All, IsSomeAnd, if◌then◌else◌, find};
+ghost use Rattle.std.specs.Prelude.{◌≡◌, ◌≢◌, ◌+◌, ◌-◌, ◌^◌, ◌<◌, ◌≤◌, length, min, true, false, Some, None, ◌∷◌, [], Ok, Err, IfOk, IfSome, IfNone, IsSome, IsTrue, All, IsSomeAnd, if◌then◌else◌, find};
 ghost use Rattle.paygo_spec.specs.Faults.{raised, Rose};
 ghost use Rattle.ledger_spec.specs.declared.KeeperFault.TheVariants.{Failed};
-ghost use Rattle.ledger_spec.specs.Tables.{Tables, row_of, order_of, change_of, prices_for, change_before, row_in, order_in, rows_with, has_serial, no_tables, with_row, with_order, with_change, with_raised, raised_row, rows_raised, RowIsInRange, OrderIsInRange, ChangeIsInRange, Kept};
+ghost use Rattle.ledger_spec.specs.Tables.{Tables, row_of, order_of, change_of, prices_for, change_before, row_in, order_in, rows_with, has_serial, no_tables, with_row, with_order, with_change, with_raised, raised_row, rows_raised, with_lifted, lifted_row, rows_lifted, RowIsInRange, OrderIsInRange, ChangeIsInRange, Kept};
 ghost use Rattle.paygo_spec.specs.declared.TheConstants.{LAST};
 ghost use Rattle.ledger_spec.specs.KeptOnce.{kept_prop};
 ghost use Rattle.ledger_spec.specs.Sorted.{orders_for, all_rows, rises, order_before, row_before};
+ghost use Rattle.ledger_spec.specs.Replay.{orders_back};
 ghost use Rattle.ledger_spec.specs.Keeper.{KeeperView, Counts, Reads, Commits, IsOrderOf};
 ghost use Rattle.ledger_keeper.specs.Planned.{planned_at, ReadsAsPlanned, WritesAsPlanned};
 
 use crate::Keeper;
-use crate::sorting::{sorted_changes, sorted_orders, sorted_rows};
+use crate::sorting::{orders_among, sorted_changes, sorted_orders, sorted_rows};
 use ledger_spec::{KeeperFault, Name, Order, PriceChange, Row};
 use paygo_spec::{Form, GREAT};
 use std::alloc::Global;
@@ -173,6 +174,22 @@ fn raise_among(rows: &mut Vec<Row>, serial: &Name)
 {
     if let Some(row) = row_among(rows, serial) {
         put(rows, &with_limit(&row));
+    }
+}
+
+// The row with its last count lifted.
+fn with_last(row: &Row, to: u16) -> Row
+    ensures { result ≡ lifted_row to row.now }
+{
+    Row { last: to, ..*row }
+}
+
+// Lifts the last count of the row of a serial, where there is one.
+fn lift_among(rows: &mut Vec<Row>, serial: &Name, to: u16)
+    ensures { rows.new.items ≡ rows_lifted to (row_in rows.old.items serial.now) rows.old.items }
+{
+    if let Some(row) = row_among(rows, serial) {
+        put(rows, &with_last(&row, to));
     }
 }
 
@@ -348,6 +365,44 @@ impl Keeper for MemKeeper {
         }
         raise_among(&mut self.rows, serial);
         written(planned, &mut self.faults)
+    }
+
+    fn skip(&mut self, _alloc: Global, serial: &Name, to: u16) -> Result<(), KeeperFault>
+        requires { IfSome (⟦<MemKeeper as Keeper>⟧.view self.old).tables
+            (λ tables. IsSomeAnd (row_of tables serial.now) (λ row. (row.last < to) × (to ≤ row.limit))) }
+        ensures commits { Commits (with_lifted to serial.now) result (⟦<MemKeeper as Keeper>⟧.view self.old)
+            (⟦<MemKeeper as Keeper>⟧.view self.new) }
+        ensures plan { keeper_plan self.new ≡ record (keeper_plan self.old)
+            { calls = raised (keeper_plan self.old).calls 1 } }
+        ensures planned { WritesAsPlanned (with_lifted to serial.now)
+            (planned_at (keeper_plan self.new).fails (keeper_plan self.new).calls) result
+            (⟦<MemKeeper as Keeper>⟧.view self.old) (⟦<MemKeeper as Keeper>⟧.view self.new) }
+    {
+        let planned = begin(&mut self.calls, &self.plan);
+        if planned == Some(false) {
+            return Err(failed(&mut self.faults));
+        }
+        lift_among(&mut self.rows, serial, to);
+        written(planned, &mut self.faults)
+    }
+
+    fn orders_back(&mut self, alloc: Global, serial: &Name) -> Result<Vec<Order>, KeeperFault>
+        ensures reads { Reads result (⟦<MemKeeper as Keeper>⟧.view self.old) (⟦<MemKeeper as Keeper>⟧.view self.new) }
+        ensures found { IfOk result (λ list. IfSome (⟦<MemKeeper as Keeper>⟧.view self.old).tables
+            (λ tables. list.items ≡ orders_back tables serial.now)) }
+        ensures asked { IfOk result (λ list. All (λ order. order.serial ≡ serial.now) list.items) }
+        ensures in_range { IfOk result (λ list. All OrderIsInRange list.items) }
+        ensures plan { keeper_plan self.new ≡ record (keeper_plan self.old)
+            { calls = raised (keeper_plan self.old).calls 1 } }
+        ensures planned { ReadsAsPlanned (planned_at (keeper_plan self.new).fails (keeper_plan self.new).calls) result }
+    {
+        if begin(&mut self.calls, &self.plan).is_some() {
+            return Err(failed(&mut self.faults));
+        }
+        match orders_among(alloc, &self.orders, serial) {
+            Some(list) => Ok(list),
+            None => Err(KeeperFault::Memory),
+        }
     }
 
     fn add_price(&mut self, _alloc: Global, change: &PriceChange) -> Result<(), KeeperFault>

@@ -1,5 +1,7 @@
 -- What stays in the tables, one command after another.
-use Rattle.std.proofs.Common.{Bool, true, false, ◌==◌, ◌≡◌, ℕ, zero, suc, ◌+◌, ◌*◌, ◌/◌, ◌%◌, ◌<◌, ◌≤◌, ◌^◌, List, [], ◌∷◌, inl, inr, Option, Some, None, Result, Ok, Err, cond, refl, sym, ap, subst, ◌∙◌, arith, lit≤}
+use Rattle.std.specs.Prelude.{nat_le}
+use Rattle.std.proofs.lemmas.Bool.{ltb-true, leb-true}
+use Rattle.std.proofs.Common.{Bool, true, false, ◌==◌, nat_lt, ◌≡◌, ℕ, zero, suc, ◌+◌, ◌*◌, ◌/◌, ◌%◌, ◌<◌, ◌≤◌, ◌^◌, List, [], ◌∷◌, inl, inr, Option, Some, None, Result, Ok, Err, cond, refl, sym, ap, subst, ◌∙◌, arith, lit≤}
 use Rattle.paygo_spec.specs.declared.TheConstants.{LAST}
 use Rattle.paygo_spec.specs.Chain.{token_at, first_code, code_from, with_base}
 use Rattle.ledger_spec.specs.declared.Row.{Row}
@@ -12,12 +14,12 @@ use Rattle.ledger_spec.specs.declared.PriceChange.{PriceChange}
 use Rattle.ledger_spec.specs.declared.Enrol.{Enrol}
 use Rattle.ledger_spec.specs.declared.Command.{Command}
 use Rattle.ledger_spec.specs.declared.Command.TheVariants as command_is
-use Rattle.ledger_spec.specs.Tables.{Tables, row_of, order_of, row_in, order_in, rows_with, with_row, with_order, price_at, change_of, with_change, raised_row, raised_by, RowIsInRange, ChangeIsInRange, AskIsInRange, Kept}
+use Rattle.ledger_spec.specs.Tables.{Tables, row_of, order_of, row_in, order_in, rows_with, with_row, with_order, price_at, change_of, with_change, raised_row, raised_by, lifted_row, lifted_by, RowIsInRange, ChangeIsInRange, AskIsInRange, Kept}
 use Rattle.ledger_spec.specs.Issuing.{pick}
-use Rattle.ledger_spec.specs.Ledger.{done, enrolled, new_row, asked, asked_of, issued, issued_at, offered, order_at, row_at, raises, raised_at, repriced, changed_of, changed_at, change_to, IsCommand, EnrolIsInRange}
+use Rattle.ledger_spec.specs.Ledger.{done, enrolled, new_row, asked, asked_of, issued, issued_at, offered, order_at, row_at, raises, raised_at, repriced, changed_of, changed_at, change_to, skipped, skipped_at, lifted_at, IsCommand, EnrolIsInRange}
 use Rattle.ledger_spec.proofs.NameLemmas.{same_or_not}
 use Rattle.ledger_spec.proofs.Lookups.{row_found_again, row_other, row_same}
-use Rattle.ledger_spec.proofs.KeptLemmas.{row_kept, kept_with_row, kept_with_order, kept_with_change, kept_raised, limit_low, some_by}
+use Rattle.ledger_spec.proofs.KeptLemmas.{row_kept, kept_with_row, kept_with_order, kept_with_change, kept_raised, kept_lifted, limit_low, some_by}
 use Rattle.ledger_spec.proofs.PriceLemmas.{price_in_range, change_stays}
 use Rattle.ledger_spec.proofs.IssueLemmas.{IssueFits, issue_fits, row_fits, order_fits, picked}
 use Rattle.ledger_spec.specs.Sound.{StaysBelow}
@@ -107,6 +109,24 @@ later_raised row t is in_range = record {
         let it : row ≡ r = cc in
         (raised_row row, ap (λ s. row_in (rows_with (raised_row row) t.rows) s) (sym same) ∙ row_same (raised_row row) t.rows row is, subst (λ (x : Row). GoesOn x (raised_row row)) it (raised_goes row in_range))
     | inr other ↦ (r, row_other (raised_row row) t.rows serial other ∙ found, goes_still r)
+  ];
+  changes = λ serial from change found. found;
+}
+
+-- the last count of a row is lifted
+pub lifted_goes : (to : ℕ) (row : Row) → row.last < to → GoesOn row (lifted_row to row)
+lifted_goes to row above = record { serial = refl; key = refl; start = refl; divider = refl; form = refl; price = refl; total = refl; last = omega arith; limit = omega arith }
+
+-- and it takes the place of the one before
+pub later_lifted : (to : ℕ) (row : Row) (t : Tables) → row.last < to → row_of t row.serial ≡ Some row → Later t (lifted_by to (Some row) t)
+later_lifted to row t above is = record {
+  orders = λ id order found. found;
+  rows = λ serial r found. elim (same_or_not row.serial serial) [
+    | inl same ↦
+        let one : Some row ≡ Some r = sym is ∙ ap (λ s. row_of t s) same ∙ found in
+        let it : row ≡ r = cc in
+        (lifted_row to row, ap (λ s. row_in (rows_with (lifted_row to row) t.rows) s) (sym same) ∙ row_same (lifted_row to row) t.rows row is, subst (λ (x : Row). GoesOn x (lifted_row to row)) it (lifted_goes to row above))
+    | inr other ↦ (r, row_other (lifted_row to row) t.rows serial other ∙ found, goes_still r)
   ];
   changes = λ serial from change found. found;
 }
@@ -212,6 +232,20 @@ module _ (next : List ℕ → ℕ → ℕ) (below : StaysBelow next) where
   raises_well t serial None found_is kept = stays_well t kept
   raises_well t serial (Some row) found_is kept = raised_at_well t row (row.limit == LAST) kept (row_kept t.rows serial row kept.rows found_is) (row_found_again t.rows serial row found_is)
 
+  lifted_at_well : (t : Tables) (to : ℕ) (row : Row) (within : Bool) → nat_le to row.limit ≡ within → row.last < to → Kept t → RowIsInRange row → row_of t row.serial ≡ Some row → GoesWell t (lifted_at t to row within).tables
+  lifted_at_well t to row true within above kept in_range is =
+      let low : to ≤ row.limit = leb-true to row.limit within in
+      subst (λ (o : Option Row). GoesWell t (lifted_by to o t)) (sym is) record { kept = kept_lifted to row t above low is in_range kept; later = later_lifted to row t above is }
+  lifted_at_well t to row false within above kept in_range is = stays_well t kept
+
+  skipped_at_well : (t : Tables) (to : ℕ) (row : Row) (above : Bool) → nat_lt row.last to ≡ above → Kept t → RowIsInRange row → row_of t row.serial ≡ Some row → GoesWell t (skipped_at t to row above).tables
+  skipped_at_well t to row true above kept in_range is = lifted_at_well t to row (nat_le to row.limit) refl (ltb-true row.last to above) kept in_range is
+  skipped_at_well t to row false above kept in_range is = stays_well t kept
+
+  skipped_well : (t : Tables) (to : ℕ) (serial : List ℕ) (found : Option Row) → row_of t serial ≡ found → Kept t → GoesWell t (skipped t to found).tables
+  skipped_well t to serial None found_is kept = stays_well t kept
+  skipped_well t to serial (Some row) found_is kept = skipped_at_well t to row (nat_lt row.last to) refl kept (row_kept t.rows serial row kept.rows found_is) (row_found_again t.rows serial row found_is)
+
   changed_at_well : (t : Tables) (change : PriceChange) (row : Row) (newest : Bool) → Kept t → ChangeIsInRange change → row_of t change.serial ≡ Some row → change_of t change.serial change.from ≡ None → GoesWell t (changed_at t change row newest).tables
   changed_at_well t change row true kept in_range is none = record { kept = kept_with_change change t in_range none (some_by (Some row) (row_of t change.serial) is refl) kept; later = later_with_change change t none }
   changed_at_well t change row false kept in_range is none = stays_well t kept
@@ -235,6 +269,8 @@ module _ (next : List ℕ → ℕ → ℕ) (below : StaysBelow next) where
   done_well t (command_is.Show serial) kept may = stays_well t kept
   done_well t (command_is.Raise serial) kept may = raises_well t serial (row_of t serial) refl kept
   done_well t (command_is.Price serial from price) kept may = repriced_well t (change_to serial from price) (row_of t serial) refl kept may
+  done_well t (command_is.Quote serial amount) kept may = stays_well t kept
+  done_well t (command_is.Skip serial to) kept may = skipped_well t to serial (row_of t serial) refl kept
 
   asked_step : (t new : Tables) (command : Command) (answer : Option Answer) → Kept t → IsCommand command → Asked next t command answer new → GoesWell t new
   asked_step t new command answer kept may (inl whole) = subst (λ (u : Tables). GoesWell t u) (sym whole.1) (done_well t command kept may)

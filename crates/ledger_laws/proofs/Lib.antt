@@ -6,3 +6,6 @@ pub mod Rising
 pub mod Repriced
 pub mod Laws
 pub mod PriceLaw
+pub mod Skips
+pub mod Quoting
+pub mod StuckLemmas

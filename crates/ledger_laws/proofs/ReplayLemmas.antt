@@ -5,7 +5,7 @@ use Rattle.ledger_spec.specs.declared.Order.{Order}
 use Rattle.ledger_spec.specs.declared.Ask.{Ask}
 use Rattle.ledger_spec.specs.declared.Issue.{Issue}
 use Rattle.ledger_spec.specs.declared.PriceChange.{PriceChange}
-use Rattle.ledger_spec.specs.Tables.{Tables, price_at, price_among, prices_in, prices_for, raised_row}
+use Rattle.ledger_spec.specs.Tables.{Tables, price_at, price_among, prices_in, prices_for, raised_row, lifted_row}
 use Rattle.ledger_spec.specs.Ledger.{order_at, row_at}
 use Rattle.ledger_spec.specs.Replay.{Account, Booked, booked, account_of, account_after, AreBooked, FallBelow, price_by, orders_back, IsReplayed}
 use Rattle.ledger_spec.proofs.IssueLemmas.{IssueFits}
@@ -37,6 +37,15 @@ booked_same price other total bound (order ∷ orders) falls same are =
 -- a row whose limit is raised is what it was
 pub replay_raised : (orders : List Order) (changes : List PriceChange) (row : Row) → IsReplayed orders changes row → IsReplayed orders changes (raised_row row)
 replay_raised orders changes row is = record { falls = is.falls; froms = is.froms; booked = is.booked; account = is.account }
+
+-- a row whose last count is lifted is what it was
+pub replay_lifted : (to : ℕ) (orders : List Order) (changes : List PriceChange) (row : Row) → row.last < to → IsReplayed orders changes row → IsReplayed orders changes (lifted_row to row)
+replay_lifted to orders changes row above is = record {
+  falls = falls_from (row.last + 1) (to + 1) orders (omega arith) is.falls;
+  froms = froms_later row.last to changes (omega arith) is.froms;
+  booked = is.booked;
+  account = is.account;
+}
 
 -- a change that holds from the row's last count on leaves what was issued
 pub replay_priced : (orders : List Order) (change : PriceChange) (changes : List PriceChange) (serial : List ℕ) (row : Row) → change.from ≡ row.last → IsReplayed orders (prices_in changes serial) row → IsReplayed orders (prices_in (change ∷ changes) serial) row

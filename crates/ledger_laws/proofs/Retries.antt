@@ -1,6 +1,7 @@
 -- An order is answered again, whatever was asked of the ledger since.
 use Rattle.std.proofs.Common.{◌==◌, [], ◌∷◌, ◌≡◌, ℕ, List, Bool, true, false, Option, Some, None, Result, Ok, Err, cond, unwrap_or, refl, sym, ap, subst, ◌∙◌, nat_lt, ◌/◌, ◌%◌, ◌+◌}
 use Rattle.std.specs.Option.{option_map}
+use Rattle.std.specs.Prelude.{nat_le}
 use Rattle.std.proofs.lemmas.Bool.{and_from, eq-eqb}
 use Rattle.paygo_spec.specs.declared.Form.{Form}
 use Rattle.paygo_spec.specs.declared.Form.TheVariants.{Nine}
@@ -20,7 +21,7 @@ use Rattle.ledger_spec.specs.declared.Command.TheVariants as command_is
 use Rattle.ledger_spec.specs.Names.{same_name}
 use Rattle.ledger_spec.specs.Tables.{Tables, row_of, order_of, order_in, form_in, with_order, price_at, change_of, RowIsInRange, AskIsInRange, Kept}
 use Rattle.ledger_spec.specs.Issuing.{pick}
-use Rattle.ledger_spec.specs.Ledger.{done, stays, enrolled, agrees, asked, asked_of, issued, issued_at, issue_for, offered, raises, raised_at, repriced, changed_of, changed_at, change_to, pays, buys, order_at, row_at, is_retry, same_ask, form_for, told_order, told_row, IsCommand}
+use Rattle.ledger_spec.specs.Ledger.{done, stays, enrolled, agrees, asked, asked_of, issued, issued_at, issue_for, offered, raises, raised_at, repriced, changed_of, changed_at, change_to, quoted, quoted_for, quoted_at, skipped, skipped_at, lifted_at, pays, buys, order_at, row_at, is_retry, same_ask, form_for, told_order, told_row, IsCommand}
 use Rattle.ledger_spec.proofs.NameLemmas.{same_is, is_same, self_same}
 use Rattle.ledger_spec.proofs.Lookups.{found_serial, row_same}
 use Rattle.ledger_spec.proofs.KeptLemmas.{some_is, order_kept, row_kept}
@@ -228,6 +229,30 @@ module _ (next : List ℕ → ℕ → ℕ) where
   reprice_no_order t change None order form is = cc
   reprice_no_order t change (Some row) order form is = kept_no_order t change row (change_of t change.serial change.from) order form is
 
+  lifted_no_order : (t : Tables) (to : ℕ) (row : Row) (within : Bool) (order : Order) (form : Form) → (lifted_at t to row within).answer ≡ answer_is.Order order form → ⊥
+  lifted_no_order t to row true order form is = cc
+  lifted_no_order t to row false order form is = cc
+
+  skip_no_order : (t : Tables) (to : ℕ) (row : Row) (above : Bool) (order : Order) (form : Form) → (skipped_at t to row above).answer ≡ answer_is.Order order form → ⊥
+  skip_no_order t to row true order form is = lifted_no_order t to row (nat_le to row.limit) order form is
+  skip_no_order t to row false order form is = cc
+
+  skipped_no_order : (t : Tables) (to : ℕ) (found : Option Row) (order : Order) (form : Form) → (skipped t to found).answer ≡ answer_is.Order order form → ⊥
+  skipped_no_order t to None order form is = cc
+  skipped_no_order t to (Some row) order form is = skip_no_order t to row (nat_lt row.last to) order form is
+
+  quoted_at_no_order : (row : Row) (issue : Issue) (found : Option ℕ) (order : Order) (form : Form) → quoted_at row issue found ≡ answer_is.Order order form → ⊥
+  quoted_at_no_order row issue None order form is = cc
+  quoted_at_no_order row issue (Some count) order form is = cc
+
+  quoted_for_no_order : (price : ℕ) (row : Row) (ask : Ask) (what : Result Issue Answer) (order : Order) (form : Form) → issue_for price row ask ≡ what → quoted_for next row what ≡ answer_is.Order order form → ⊥
+  quoted_for_no_order price row ask (Err refusal) order form what_is is = no_order price row ask order form (what_is ∙ ap (λ (a : Answer). refused a) is)
+  quoted_for_no_order price row ask (Ok issue) order form what_is is = quoted_at_no_order row issue (pick (next issue.row.key) issue.row.start issue.row.limit issue.row.last issue.kind issue.value) order form is
+
+  quote_no_order : (t : Tables) (amount : ℕ) (found : Option Row) (order : Order) (form : Form) → quoted next t amount found ≡ answer_is.Order order form → ⊥
+  quote_no_order t amount None order form is = cc
+  quote_no_order t amount (Some row) order form is = quoted_for_no_order (price_at t row (row.last + 1)) row (asks.Pay amount) (offered t row (asks.Pay amount)) order form refl is
+
   -- a command that was answered by an order is answered by it again, and changes nothing
   pub again : (t later : Tables) (command : Command) (order : Order) (form : Form) → Kept t → IsCommand command → (done next t command).answer ≡ answer_is.Order order form
       → Later (done next t command).tables later → done next later command ≡ stays later (answer_is.Order order form)
@@ -240,6 +265,8 @@ module _ (next : List ℕ → ℕ → ℕ) where
   again t later (command_is.Show serial) order form in_order may is goes = absurd (show_no_order (row_of t serial) order form is)
   again t later (command_is.Raise serial) order form in_order may is goes = absurd (raise_no_order t (row_of t serial) order form is)
   again t later (command_is.Price serial from price) order form in_order may is goes = absurd (reprice_no_order t (change_to serial from price) (row_of t serial) order form is)
+  again t later (command_is.Quote serial amount) order form in_order may is goes = absurd (quote_no_order t amount (row_of t serial) order form is)
+  again t later (command_is.Skip serial to) order form in_order may is goes = absurd (skipped_no_order t to (row_of t serial) order form is)
 
   -- and so it is after any run of commands
   pub again_after : StaysBelow next → (t later : Tables) (command : Command) (order : Order) (form : Form) (commands : List Command) (answers : List (Option Answer)) → Kept t → IsCommand command
@@ -270,3 +297,5 @@ module _ (next : List ℕ → ℕ → ℕ) where
   answered_is_kept t (command_is.Show serial) order form in_order may is = absurd (show_no_order (row_of t serial) order form is)
   answered_is_kept t (command_is.Raise serial) order form in_order may is = absurd (raise_no_order t (row_of t serial) order form is)
   answered_is_kept t (command_is.Price serial from price) order form in_order may is = absurd (reprice_no_order t (change_to serial from price) (row_of t serial) order form is)
+  answered_is_kept t (command_is.Quote serial amount) order form in_order may is = absurd (quote_no_order t amount (row_of t serial) order form is)
+  answered_is_kept t (command_is.Skip serial to) order form in_order may is = absurd (skipped_no_order t to (row_of t serial) order form is)

@@ -1,5 +1,5 @@
 -- The ledger keeps its tables sound.
-use Rattle.std.proofs.Common.{◌≡◌, ℕ, ◌+◌, ◌<◌, ◌≤◌, List, [], ◌∷◌, filter, max, Bool, true, false, ◌==◌, inl, inr, Option, Some, None, Result, Ok, Err, cond, refl, sym, ap, subst, ◌∙◌, arith}
+use Rattle.std.proofs.Common.{◌≡◌, ℕ, ◌+◌, ◌<◌, ◌≤◌, List, [], ◌∷◌, filter, max, Bool, true, false, nat_lt, ◌==◌, inl, inr, Option, Some, None, Result, Ok, Err, cond, refl, sym, ap, subst, ◌∙◌, arith}
 use Rattle.paygo_spec.specs.declared.TheConstants.{LAST}
 use Rattle.paygo_spec.specs.Chain.{token_at}
 use Rattle.ledger_spec.specs.declared.Row.{Row}
@@ -13,23 +13,24 @@ use Rattle.ledger_spec.specs.declared.Enrol.{Enrol}
 use Rattle.ledger_spec.specs.declared.Command.{Command}
 use Rattle.ledger_spec.specs.declared.Command.TheVariants as command_is
 use Rattle.ledger_spec.specs.Names.{same_name}
-use Rattle.ledger_spec.specs.Tables.{Tables, row_of, order_of, row_in, order_in, rows_with, with_row, with_order, prices_in, prices_for, is_change_of, change_before, change_of, price_at, with_change, raised_row, raised_by, RowIsInRange, AskIsInRange, AreOrders, AreChanges, Kept}
+use Rattle.ledger_spec.specs.Tables.{Tables, row_of, order_of, row_in, order_in, rows_with, with_row, with_order, prices_in, prices_for, is_change_of, change_before, change_of, price_at, with_change, raised_row, raised_by, lifted_row, lifted_by, RowIsInRange, AskIsInRange, AreOrders, AreChanges, Kept}
 use Rattle.ledger_spec.specs.Putting.{sorted_by}
 use Rattle.ledger_spec.specs.Sorted.{is_for}
 use Rattle.ledger_spec.specs.Replay.{IsReplayed, orders_back}
 use Rattle.ledger_spec.specs.Issuing.{pick}
-use Rattle.ledger_spec.specs.Ledger.{done, enrolled, new_row, asked, asked_of, issued, issued_at, offered, order_at, row_at, raises, raised_at, repriced, changed_of, changed_at, change_to, IsCommand}
+use Rattle.ledger_spec.specs.Ledger.{done, enrolled, new_row, asked, asked_of, issued, issued_at, offered, order_at, row_at, raises, raised_at, repriced, changed_of, changed_at, change_to, skipped, skipped_at, lifted_at, IsCommand}
 use Rattle.ledger_spec.proofs.Alone.{alone_says}
 use Rattle.ledger_spec.proofs.NameLemmas.{is_same, same_or_not}
 use Rattle.ledger_spec.proofs.Lookups.{row_found_again, row_other, row_same}
 use Rattle.ledger_spec.proofs.KeptLemmas.{row_kept, order_kept, some_is}
 use Rattle.ledger_spec.proofs.IssueLemmas.{IssueFits, issue_fits, picked}
 use Rattle.ledger_spec.proofs.PriceLemmas.{price_in_range, prices_other}
-use Rattle.std.proofs.lemmas.Bool.{eqb-true}
+use Rattle.std.specs.Prelude.{nat_le}
+use Rattle.std.proofs.lemmas.Bool.{eqb-true, ltb-true}
 use Rattle.ledger_spec.specs.Sound.{StaysBelow, IsIssued, Sound}
 use Rattle.ledger_laws.specs.Later.{GoesOn}
-use Rattle.ledger_laws.proofs.LaterLemmas.{done_well, issue_goes, raised_goes}
-use Rattle.ledger_laws.proofs.ReplayLemmas.{replay_raised, replay_priced, replay_issue}
+use Rattle.ledger_laws.proofs.LaterLemmas.{done_well, issue_goes, raised_goes, lifted_goes}
+use Rattle.ledger_laws.proofs.ReplayLemmas.{replay_raised, replay_lifted, replay_priced, replay_issue}
 
 -- an order that was issued for a row was issued for the row that it goes on as
 still_issued : (next : List ℕ → ℕ → ℕ) (old new : Row) (order : Order) → GoesOn old new → IsIssued next old order → IsIssued next new order
@@ -204,6 +205,34 @@ module _ (next : List ℕ → ℕ → ℕ) (t : Tables) (sound : Sound next t) w
     pub sound_raised : Kept (raised_by (Some row) t) → Sound next (raised_by (Some row) t)
     sound_raised in_order = record { kept = in_order; issued = issued_raised; counts = sound.counts; replayed = replayed_raised }
 
+  -- the last count of a row is lifted
+  module _ (to : ℕ) (row : Row) (above : row.last < to) (was : row_of t row.serial ≡ Some row) where
+    lifted_now : row_in (rows_with (lifted_row to row) t.rows) row.serial ≡ Some (lifted_row to row)
+    lifted_now = row_same (lifted_row to row) t.rows row was
+
+    row_is_lifted : (serial : List ℕ) (r : Row) → row.serial ≡ serial → row_in (rows_with (lifted_row to row) t.rows) serial ≡ Some r → lifted_row to row ≡ r
+    row_is_lifted serial r own is = one_of (lifted_row to row) r (sym lifted_now ∙ ap (λ s. row_in (rows_with (lifted_row to row) t.rows) s) own ∙ is)
+
+    issued_lifted : (id : List ℕ) (o : Order) (r : Row) → order_of t id ≡ Some o → row_in (rows_with (lifted_row to row) t.rows) o.serial ≡ Some r → IsIssued next r o
+    issued_lifted id o r is row_is = elim (same_or_not row.serial o.serial) [
+      | inl own ↦
+          let its : lifted_row to row ≡ r = row_is_lifted o.serial r own row_is in
+          let old : IsIssued next row o = sound.issued id o row is (ap (λ s. row_of t s) (sym own) ∙ was) in
+          subst (λ (x : Row). IsIssued next x o) its (still_issued next row (lifted_row to row) o (lifted_goes to row above) old)
+      | inr other ↦ sound.issued id o r is (sym (row_other (lifted_row to row) t.rows o.serial other) ∙ row_is)
+    ]
+
+    replayed_lifted : (serial : List ℕ) (r : Row) → row_in (rows_with (lifted_row to row) t.rows) serial ≡ Some r → IsReplayed (orders_back t serial) (prices_for t serial) r
+    replayed_lifted serial r is = elim (same_or_not row.serial serial) [
+      | inl own ↦
+          let its : lifted_row to row ≡ r = row_is_lifted serial r own is in
+          subst (λ (x : Row). IsReplayed (orders_back t serial) (prices_for t serial) x) its (replay_lifted to (orders_back t serial) (prices_for t serial) row above (sound.replayed serial row (ap (λ s. row_of t s) (sym own) ∙ was)))
+      | inr other ↦ sound.replayed serial r (sym (row_other (lifted_row to row) t.rows serial other) ∙ is)
+    ]
+
+    pub sound_lifted : Kept (lifted_by to (Some row) t) → Sound next (lifted_by to (Some row) t)
+    sound_lifted in_order = record { kept = in_order; issued = issued_lifted; counts = sound.counts; replayed = replayed_lifted }
+
   -- a change of a price is added
   module _ (change : PriceChange) (row : Row) (was : row_of t change.serial ≡ Some row) (newest : change.from ≡ row.last) where
     replayed_changed : (serial : List ℕ) (r : Row) → row_of t serial ≡ Some r → IsReplayed (orders_back t serial) (prices_in (change ∷ t.changes) serial) r
@@ -267,6 +296,19 @@ module _ (next : List ℕ → ℕ → ℕ) (below : StaysBelow next) where
   raises_sound t serial None found_is sound kept = sound
   raises_sound t serial (Some row) found_is sound kept = raised_at_sound t row (row.limit == LAST) sound kept (row_kept t.rows serial row sound.kept.rows found_is) (row_found_again t.rows serial row found_is)
 
+  lifted_at_sound : (t : Tables) (to : ℕ) (row : Row) (within : Bool) → row.last < to → Sound next t → Kept (lifted_at t to row within).tables → row_of t row.serial ≡ Some row → Sound next (lifted_at t to row within).tables
+  lifted_at_sound t to row true above sound kept is =
+      subst (λ (o : Option Row). Sound next (lifted_by to o t)) (sym is) (sound_lifted next t sound to row above is (subst (λ (o : Option Row). Kept (lifted_by to o t)) is kept))
+  lifted_at_sound t to row false above sound kept is = sound
+
+  skipped_at_sound : (t : Tables) (to : ℕ) (row : Row) (above : Bool) → nat_lt row.last to ≡ above → Sound next t → Kept (skipped_at t to row above).tables → row_of t row.serial ≡ Some row → Sound next (skipped_at t to row above).tables
+  skipped_at_sound t to row true above sound kept is = lifted_at_sound t to row (nat_le to row.limit) (ltb-true row.last to above) sound kept is
+  skipped_at_sound t to row false above sound kept is = sound
+
+  skipped_sound : (t : Tables) (to : ℕ) (serial : List ℕ) (found : Option Row) → row_of t serial ≡ found → Sound next t → Kept (skipped t to found).tables → Sound next (skipped t to found).tables
+  skipped_sound t to serial None found_is sound kept = sound
+  skipped_sound t to serial (Some row) found_is sound kept = skipped_at_sound t to row (nat_lt row.last to) refl sound kept (row_found_again t.rows serial row found_is)
+
   changed_at_sound : (t : Tables) (change : PriceChange) (row : Row) (newest : Bool) → (change.from == row.last) ≡ newest → Sound next t → Kept (changed_at t change row newest).tables → row_of t change.serial ≡ Some row → Sound next (changed_at t change row newest).tables
   changed_at_sound t change row true newest_is sound kept is = sound_with_change next t sound change row is (eqb-true change.from row.last newest_is) kept
   changed_at_sound t change row false newest_is sound kept is = sound
@@ -289,6 +331,8 @@ module _ (next : List ℕ → ℕ → ℕ) (below : StaysBelow next) where
   by_command t (command_is.Show serial) sound may kept = sound
   by_command t (command_is.Raise serial) sound may kept = raises_sound t serial (row_of t serial) refl sound kept
   by_command t (command_is.Price serial from price) sound may kept = repriced_sound t (change_to serial from price) (row_of t serial) refl sound kept
+  by_command t (command_is.Quote serial amount) sound may kept = sound
+  by_command t (command_is.Skip serial to) sound may kept = skipped_sound t to serial (row_of t serial) refl sound kept
 
   pub sound_done : (t : Tables) (command : Command) → Sound next t → IsCommand command → Sound next (done next t command).tables
   sound_done t command sound may = by_command t command sound may (done_well next below t command sound.kept may).kept

@@ -1,7 +1,7 @@
 //! Laws of the ledger over every run of commands, whichever keeper holds the tables and whatever fails.
 #![tactic(auto)]
 
-ghost use Rattle.std.specs.Prelude.{◌≡◌, ◌<◌, ◌≤◌, ◌↔◌, ℕ, true, List, reverse, Option, Some, None, IfSome, Result};
+ghost use Rattle.std.specs.Prelude.{◌≡◌, ◌<◌, ◌≤◌, ◌↔◌, ℕ, true, nat_le, [], List, reverse, Option, Some, None, IfSome, Result};
 ghost use Rattle.std.specs.List.{AllByRecursion};
 ghost use Rattle.std.specs.Result.{result_ok};
 ghost use Rattle.paygo_spec.specs.declared.Form.{Form};
@@ -17,12 +17,21 @@ ghost use Rattle.ledger_spec.specs.declared.PriceChange.{PriceChange};
 ghost use Rattle.ledger_spec.specs.Tables.{Tables, no_tables, row_of, order_of, change_of, prices_for, price_at, Kept};
 ghost use Rattle.ledger_spec.specs.Sorted.{orders_for};
 ghost use Rattle.ledger_spec.specs.Replay.{account_from, account_of, no_account, orders_back, price_by};
-ghost use Rattle.ledger_spec.specs.Issuing.{is_clean};
+ghost use Rattle.ledger_spec.specs.Issuing.{is_clean, pick};
 ghost use Rattle.ledger_spec.specs.Keeper.{KeeperView};
 ghost use Rattle.ledger_spec.specs.Applied.{Applies};
 ghost use Rattle.ledger_spec.specs.Ledger.{done, stays, IsCommand};
 ghost use Rattle.ledger_spec.specs.Sound.{Sound, StaysBelow, paid_by};
+ghost use Rattle.ledger_spec.specs.Stuck.{stuck_at, stuck_below, kinds_for};
+ghost use Rattle.ledger_spec.specs.declared.Kind.{Kind};
+ghost use Rattle.paygo_spec.specs.declared.TheConstants.{LAST};
+ghost use Rattle.ledger_spec.specs.Issuing.{is_near};
+ghost use Rattle.paygo_spec.specs.declared.Entry.{Entry};
+ghost use Rattle.paygo_spec.specs.Chain.{token_at};
+ghost use Rattle.paygo_spec.specs.History.{Summary, top, limit_of, reach};
 ghost use Rattle.ledger_laws.specs.Later.{GoesOn, Later, Asked, Runs};
+ghost use Rattle.ledger_laws.specs.Quotes.{Foretells};
+ghost use Rattle.ledger_laws.specs.Skipped.{OnlyAbove};
 
 /// Each later answer to a command that was answered with an order is that order, and changes nothing.
 #[tactic(auto, using(crate::proofs::Retries::again_after))]
@@ -179,4 +188,58 @@ pub fn with_no_change_the_price_is_the_rows()
     ensures { (tables : Tables) (row : Row) (count : ℕ) →
         AllByRecursion (λ c. count ≤ c.from) (prices_for tables row.serial) →
         price_at tables row count ≡ row.price }
+{}
+
+/// A quote changes nothing. The payment that follows it under a new id, with no command between, gives the quoted order and
+/// leaves the quoted rest; where the quote was refused, the payment is refused by the same answer.
+#[tactic(auto, using(crate::proofs::Quoting::foretold))]
+pub fn quotes_foretell_payments()
+    ensures still { (next : List ℕ → ℕ → ℕ) (tables : Tables) (serial : List ℕ) (amount : ℕ) →
+        (done next tables (command_is.Quote serial amount)).tables ≡ tables }
+    ensures foretold { (next : List ℕ → ℕ → ℕ) (tables : Tables) (id serial : List ℕ) (amount : ℕ) →
+        Kept tables → IsCommand (command_is.Quote serial amount) → order_of tables id ≡ None →
+        Foretells tables serial (done next tables (command_is.Quote serial amount)).answer
+        (done next tables (command_is.Pay id serial amount)) }
+{}
+
+/// A quoted count is near exactly where a device that has the row's last count and limit has it in reach.
+pub fn near_counts_are_in_reach()
+    ensures { (start : Summary) (entries : List Entry) (limit last value count : ℕ) →
+        limit_of start entries ≡ limit → top start entries ≡ last →
+        is_near limit last value count ≡ nat_le count (reach start entries value) }
+{}
+
+/// Behind a skip that was answered by a row, no count up to its own is ever issued for the device again: each order of the
+/// device that later tables have was there before the skip, or its count is above.
+pub fn skipped_counts_are_never_issued()
+    ensures { (next : List ℕ → ℕ → ℕ) → StaysBelow next → (old later : Tables) (serial : List ℕ) (to : ℕ)
+        (row : Row) (commands : List Command) (answers : List (Option Answer)) →
+        Kept old → IsCommand (command_is.Skip serial to) →
+        (done next old (command_is.Skip serial to)).answer ≡ answer_is.Row row →
+        Runs next (done next old (command_is.Skip serial to)).tables commands answers later →
+        OnlyAbove to serial old later }
+{}
+
+/// And no token of those counts, of whatever value, is ever sold again: so where a shop lost its newest orders and skips their
+/// counts, each token that it sells from then on is another one than each that it ever sold.
+pub fn skipped_tokens_are_never_sold()
+    ensures { (next : List ℕ → ℕ → ℕ) → StaysBelow next → (old later : Tables) (serial : List ℕ) (to : ℕ)
+        (row : Row) (commands : List Command) (answers : List (Option Answer)) →
+        Sound next old → IsCommand (command_is.Skip serial to) →
+        (done next old (command_is.Skip serial to)).answer ≡ answer_is.Row row →
+        Runs next (done next old (command_is.Skip serial to)).tables commands answers later →
+        (id : List ℕ) (order : Order) → order_of later id ≡ Some order → order.serial ≡ serial →
+        (order_of old id ≡ Some order → ⊥) → (count value : ℕ) → count ≤ to → value ≤ 999 →
+        token_at (next row.key) row.start value count ≡ order.token → ⊥ }
+{}
+
+/// Where nothing is listed as stuck up to a limit, no value of any kind is, and what isn't stuck is sold in the reach of a
+/// device whose last count is any up to the limit.
+pub fn unlisted_values_are_sold()
+    ensures free { (next : ℕ → ℕ) (start limit bound : ℕ) → stuck_below next start limit bound ≡ [] →
+        (value : ℕ) → value < bound →
+        AllByRecursion (λ kind. stuck_at next start limit kind value ≡ None) (kinds_for value) }
+    ensures near { (next : ℕ → ℕ) (start limit : ℕ) (kind : Kind) (value : ℕ) →
+        stuck_at next start limit kind value ≡ None → (last : ℕ) → last ≤ limit →
+        (count : ℕ) × (pick next start LAST last kind value ≡ Some count) × (is_near LAST last value count ≡ true) }
 {}

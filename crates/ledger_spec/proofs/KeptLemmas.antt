@@ -1,12 +1,12 @@
 -- Tables stay in order when a row or an order is added.
 use Rattle.std.proofs.lemmas.Bool.Decides.{nat_tests}
-use Rattle.std.proofs.Common.{◌≤◌, arith, ◌≡◌, ℕ, List, [], ◌∷◌, Bool, true, false, inl, inr, Option, Some, None, cond, refl, sym, ap, subst, ◌∙◌}
-use Rattle.std.specs.Prelude.{IsSome, IfSome}
+use Rattle.std.proofs.Common.{◌<◌, ◌≤◌, ◌*◌, ◌^◌, arith, ◌≡◌, ℕ, List, [], ◌∷◌, Bool, true, false, inl, inr, Option, Some, None, cond, refl, sym, ap, subst, ◌∙◌}
+use Rattle.std.specs.Prelude.{IsSome, IfSome, IsSomeAnd}
 use Rattle.ledger_spec.specs.declared.Row.{Row}
 use Rattle.ledger_spec.specs.declared.Order.{Order}
 use Rattle.ledger_spec.specs.declared.PriceChange.{PriceChange}
 use Rattle.ledger_spec.specs.Names.{same_name}
-use Rattle.ledger_spec.specs.Tables.{Tables, has_serial, row_in, order_in, row_of, order_of, rows_with, with_row, with_order, change_of, with_change, raised_row, raised_by, with_raised, is_limit, RowIsInRange, OrderIsInRange, ChangeIsInRange, AreRows, AreOrders, AreChanges, Kept}
+use Rattle.ledger_spec.specs.Tables.{Tables, has_serial, row_in, order_in, row_of, order_of, rows_with, with_row, with_order, change_of, with_change, raised_row, raised_by, with_raised, lifted_row, lifted_by, with_lifted, is_limit, RowIsInRange, OrderIsInRange, ChangeIsInRange, AreRows, AreOrders, AreChanges, Kept}
 use Rattle.ledger_spec.proofs.NameLemmas.{same_or_not}
 use Rattle.ledger_spec.proofs.Lookups.{put_serial, row_other, row_same, row_none, row_found_again}
 
@@ -98,6 +98,31 @@ kept_raised row tables is in_range kept = record {
   changes = changes_stay tables.rows (rows_with (raised_row row) tables.rows) (some_with (raised_row row) tables.rows row is) tables.changes kept.changes;
 }
 
+-- a row stays in range with a greater last count, up to its limit
+paid_later : (paid last to : ℕ) → paid ≤ last * 10 ^ 12 → last ≤ to → paid ≤ to * 10 ^ 12
+paid_later paid last to low more = omega arith
+
+pub lifted_fits : (to : ℕ) (row : Row) → row.last < to → to ≤ row.limit → RowIsInRange row → RowIsInRange (lifted_row to row)
+lifted_fits to row above within in_range = record {
+  serial = in_range.serial;
+  start = in_range.start;
+  divider = in_range.divider;
+  price = in_range.price;
+  total = in_range.total;
+  limit = in_range.limit;
+  last = within;
+  paid = paid_later row.paid row.last to in_range.paid (omega arith);
+  rest = in_range.rest;
+}
+
+-- the tables stay in order when the last count of a row is lifted
+pub kept_lifted : (to : ℕ) (row : Row) (tables : Tables) → row.last < to → to ≤ row.limit → row_of tables row.serial ≡ Some row → RowIsInRange row → Kept tables → Kept (lifted_by to (Some row) tables)
+kept_lifted to row tables above within is in_range kept = record {
+  rows = rows_stay (lifted_row to row) (lifted_fits to row above within in_range) tables.rows kept.rows;
+  orders = orders_stay tables.rows (rows_with (lifted_row to row) tables.rows) (some_with (lifted_row to row) tables.rows row is) tables.orders kept.orders;
+  changes = changes_stay tables.rows (rows_with (lifted_row to row) tables.rows) (some_with (lifted_row to row) tables.rows row is) tables.changes kept.changes;
+}
+
 -- each row that is found is in range
 pub row_found : (rows : List Row) (serial : List ℕ) → AreRows rows → IfSome (row_in rows serial) RowIsInRange
 row_found [] serial are = tt
@@ -154,6 +179,20 @@ kept_if_change false change tables in_range none some kept = kept
 -- the tables stay in order when the limit of a row that was found is raised
 pub kept_raised_found : (serial : List ℕ) (row : Row) (tables : Tables) → row_of tables serial ≡ Some row → Kept tables → Kept (raised_by (Some row) tables)
 kept_raised_found serial row tables is kept = kept_raised row tables (row_found_again tables.rows serial row is) (row_kept tables.rows serial row kept.rows is) kept
+
+-- the tables stay in order when the last count of a row that was found is lifted, and that of the row of its serial
+pub kept_lifted_found : (to : ℕ) (serial : List ℕ) (row : Row) (tables : Tables) → row.last < to → to ≤ row.limit → row_of tables serial ≡ Some row → Kept tables → Kept (lifted_by to (Some row) tables)
+kept_lifted_found to serial row tables above within is kept = kept_lifted to row tables above within (row_found_again tables.rows serial row is) (row_kept tables.rows serial row kept.rows is) kept
+
+lifted_or_not : (to : ℕ) (serial : List ℕ) (tables : Tables) (found : Option Row) → row_of tables serial ≡ found → IsSomeAnd found (λ row. (row.last < to) × (to ≤ row.limit)) → Kept tables → Kept (lifted_by to found tables)
+lifted_or_not to serial tables None is may kept = kept
+lifted_or_not to serial tables (Some row) is may kept = kept_lifted_found to serial row tables may.0 may.1 is kept
+
+pub kept_with_lifted : (to : ℕ) (serial : List ℕ) (tables : Tables) → IsSomeAnd (row_of tables serial) (λ row. (row.last < to) × (to ≤ row.limit)) → Kept tables → Kept (with_lifted to serial tables)
+kept_with_lifted to serial tables may kept = lifted_or_not to serial tables (row_of tables serial) refl may kept
+
+pub lifted_by_own : (to : ℕ) (row : Row) (tables : Tables) → row_of tables row.serial ≡ Some row → with_lifted to row.serial tables ≡ lifted_by to (Some row) tables
+lifted_by_own to row tables is = ap (λ (o : Option Row). lifted_by to o tables) is
 
 -- a raise of a row that was found is a raise of the row of its serial
 pub raised_by_own : (row : Row) (tables : Tables) → row_of tables row.serial ≡ Some row → with_raised row.serial tables ≡ raised_by (Some row) tables

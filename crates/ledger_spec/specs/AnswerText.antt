@@ -12,6 +12,7 @@ use Rattle.ledger_spec.specs.declared.Ask.TheVariants as asks
 use Rattle.ledger_spec.specs.declared.Row.{Row}
 use Rattle.ledger_spec.specs.declared.Order.{Order}
 use Rattle.ledger_spec.specs.declared.PriceChange.{PriceChange}
+use Rattle.ledger_spec.specs.declared.Quote.{Quote}
 use Rattle.ledger_spec.specs.declared.Answer.{Answer}
 use Rattle.ledger_spec.specs.declared.Answer.TheVariants as answer_is
 use Rattle.ledger_spec.specs.declared.TextFault.{TextFault}
@@ -106,6 +107,17 @@ change_members change =
     ∷ number (codes "price") change.price
     ∷ []
 
+-- What is told of a quote. A count that is in reach is near, else it is far.
+abbrev pub quote_members : Quote → List Member
+quote_members quote =
+    text (codes "serial") quote.serial
+    ∷ text (codes "kind") (kind_name quote.kind)
+    ∷ number (codes "count") quote.count
+    ∷ number (codes "value") quote.value
+    ∷ number (codes "rest") quote.rest
+    ∷ truth (codes "near") quote.near
+    ∷ []
+
 -- The text of an answer.
 unfoldable pub text_of_answer : Answer → List ℕ
 text_of_answer (answer_is.Order order form) = done_text (codes "order") (order_members order form)
@@ -122,6 +134,8 @@ text_of_answer (answer_is.NoCount last) = refused_text 7 (codes "no count") (num
 text_of_answer answer_is.NoOrder = refused_text 8 (codes "no order") []
 text_of_answer (answer_is.PriceUsed price) = refused_text 11 (codes "price used") (number (codes "price") price ∷ [])
 text_of_answer (answer_is.Stale last) = refused_text 12 (codes "stale") (number (codes "last") last ∷ [])
+text_of_answer (answer_is.Quote quote) = done_text (codes "quote") (quote_members quote)
+text_of_answer (answer_is.Beyond limit) = refused_text 13 (codes "beyond") (number (codes "limit") limit ∷ [])
 
 -- The text of the refusal of a line that has no command. Want of memory ends the run and is never written.
 unfoldable pub text_of_fault : TextFault → List ℕ

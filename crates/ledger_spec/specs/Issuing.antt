@@ -1,6 +1,6 @@
 -- Which count the shop issues next. The customer types no count, only the token's digits: so a token is issued only at a
 -- count whose digits no other count has, of those up to 4,095 and up to its own. A greater count may have them too.
-use Rattle.std.specs.Prelude.{ℕ, ◌+◌, ◌%◌, Bool, ◌&&◌, ◌||◌, ◌==◌, not, nat_lt, max, Option}
+use Rattle.std.specs.Prelude.{ℕ, ◌+◌, ◌%◌, Bool, ◌&&◌, ◌||◌, ◌==◌, not, nat_le, nat_lt, min, max, Option, if◌then◌else◌}
 use Rattle.std.specs.List.{list_all, range_with_len}
 use Rattle.paygo_spec.specs.declared.TheConstants.{LAST}
 use Rattle.paygo_spec.specs.Chain.{token_at}
@@ -34,3 +34,12 @@ may_issue next start last kind value count =
 -- The count that is issued: the least of them up to the row's limit, if there is one.
 abbrev pub pick : (ℕ → ℕ) → ℕ → ℕ → ℕ → Kind → ℕ → Option ℕ
 pick next start limit last kind value = least (may_issue next start last kind value) (limit + 1)
+
+-- The greatest count that a device takes next with a value, where this is its last count: that is `reach` of the device's
+-- definitions.
+abbrev pub reach_from : ℕ → ℕ → ℕ → ℕ
+reach_from limit last value = min limit (last + (if value == 999 then 100 else 64))
+
+-- Whether such a device has a count in reach.
+abbrev pub is_near : ℕ → ℕ → ℕ → ℕ → Bool
+is_near limit last value count = nat_le count (reach_from limit last value)

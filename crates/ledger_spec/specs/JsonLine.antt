@@ -65,4 +65,5 @@ IsNamed (answer_is.IdUsed order form) = IsNamedOrder order
 IsNamed (answer_is.Row row) = list_all is_name_byte row.serial ≡ true
 IsNamed (answer_is.SerialUsed row) = list_all is_name_byte row.serial ≡ true
 IsNamed (answer_is.Price change) = list_all is_name_byte change.serial ≡ true
+IsNamed (answer_is.Quote quote) = list_all is_name_byte quote.serial ≡ true
 IsNamed _ = Unit {0}

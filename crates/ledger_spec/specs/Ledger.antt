@@ -1,9 +1,9 @@
 -- What the shop's ledger answers to a command, and its tables then. Each command is refused by the first reason that
 -- there is, and a refused command changes nothing.
-use Rattle.std.specs.Prelude.{◌≡◌, ℕ, ◌+◌, ◌/◌, ◌%◌, ◌^◌, ◌<◌, ◌≤◌, Bool, true, false, ◌&&◌, ◌==◌, nat_lt, List, length, Option, None, Some, Result, Ok, Err, unwrap_or, if◌then◌else◌}
+use Rattle.std.specs.Prelude.{◌≡◌, ℕ, ◌+◌, ◌/◌, ◌%◌, ◌^◌, ◌<◌, ◌≤◌, Bool, true, false, ◌&&◌, ◌==◌, nat_lt, nat_le, List, length, Option, None, Some, Result, Ok, Err, unwrap_or, if◌then◌else◌}
 use Rattle.paygo_spec.specs.declared.Form.{Form}
 use Rattle.paygo_spec.specs.declared.Form.TheVariants.{Nine, Fifteen}
-use Rattle.paygo_spec.specs.declared.TheConstants.{LAST}
+use Rattle.paygo_spec.specs.declared.TheConstants.{LAST, GREAT}
 use Rattle.paygo_spec.specs.Chain.{token_at}
 use Rattle.paygo_spec.specs.Clock.{divides_day}
 use Rattle.std.specs.Str.{bytes_eq}
@@ -20,8 +20,8 @@ use Rattle.ledger_spec.specs.declared.Command.TheVariants as command_is
 use Rattle.ledger_spec.specs.declared.Answer.{Answer}
 use Rattle.ledger_spec.specs.declared.Answer.TheVariants as answer_is
 use Rattle.ledger_spec.specs.Names.{same_name}
-use Rattle.ledger_spec.specs.Tables.{Tables, row_of, order_of, form_in, with_row, with_order, change_of, price_at, with_change, raised_row, with_raised, OrderIsInRange, RowIsInRange, ChangeIsInRange, AskIsInRange}
-use Rattle.ledger_spec.specs.Issuing.{pick}
+use Rattle.ledger_spec.specs.Tables.{Tables, row_of, order_of, form_in, with_row, with_order, change_of, price_at, with_change, raised_row, with_raised, lifted_row, with_lifted, OrderIsInRange, RowIsInRange, ChangeIsInRange, AskIsInRange}
+use Rattle.ledger_spec.specs.Issuing.{pick, is_near}
 
 -- What was done with a command: the answer, and the tables then.
 pub record Done : Type 0 where
@@ -203,6 +203,46 @@ repriced tables change (Some row) = changed_of tables change row (change_of tabl
 abbrev pub change_to : List ℕ → ℕ → ℕ → PriceChange
 change_to serial from price = record { serial = serial; from = from; price = price }
 
+-- What would be sold at a count, or there is none.
+abbrev pub quoted_at : Row → Issue → Option ℕ → Answer
+quoted_at row issue None = answer_is.NoCount issue.row.last
+quoted_at row issue (Some count) = answer_is.Quote record {
+  serial = row.serial;
+  kind = issue.kind;
+  count = count;
+  value = issue.value;
+  rest = issue.row.rest;
+  near = is_near row.limit row.last issue.value count;
+}
+
+-- What would be issued, would be at the least count that there is for it.
+abbrev pub quoted_for : (List ℕ → ℕ → ℕ) → Row → Result Issue Answer → Answer
+quoted_for next row (Err refusal) = refusal
+quoted_for next row (Ok issue) =
+    quoted_at row issue
+    (pick (next issue.row.key) issue.row.start issue.row.limit issue.row.last issue.kind issue.value)
+
+-- A payment for a device is to be quoted.
+abbrev pub quoted : (List ℕ → ℕ → ℕ) → Tables → ℕ → Option Row → Answer
+quoted next tables amount None = answer_is.NoDevice
+quoted next tables amount (Some row) = quoted_for next row (offered tables row (asks.Pay amount))
+
+-- The last count of a device that has a row is lifted, where its limit allows the count.
+abbrev pub lifted_at : Tables → ℕ → Row → Bool → Done
+lifted_at tables to row true =
+    record { answer = answer_is.Row (lifted_row to row); tables = with_lifted to row.serial tables }
+lifted_at tables to row false = stays tables (answer_is.Beyond row.limit)
+
+-- It is lifted where it is lower, and never lowered: a row whose last count is that or a greater one is answered as it is.
+abbrev pub skipped_at : Tables → ℕ → Row → Bool → Done
+skipped_at tables to row true = lifted_at tables to row (nat_le to row.limit)
+skipped_at tables to row false = stays tables (answer_is.Row row)
+
+-- The last count of a device is to be lifted.
+abbrev pub skipped : Tables → ℕ → Option Row → Done
+skipped tables to None = stays tables answer_is.NoDevice
+skipped tables to (Some row) = skipped_at tables to row (nat_lt row.last to)
+
 -- What the ledger does with a command.
 abbrev pub done : (List ℕ → ℕ → ℕ) → Tables → Command → Done
 done next tables (command_is.Enroll enrol) = enrolled tables enrol (row_of tables enrol.serial)
@@ -216,6 +256,8 @@ done next tables (command_is.Show serial) = stays tables (told_row (row_of table
 done next tables (command_is.Raise serial) = raises tables (row_of tables serial)
 done next tables (command_is.Price serial from price) =
     repriced tables (change_to serial from price) (row_of tables serial)
+done next tables (command_is.Quote serial amount) = stays tables (quoted next tables amount (row_of tables serial))
+done next tables (command_is.Skip serial to) = skipped tables to (row_of tables serial)
 
 -- What a device is enrolled with is in range.
 pub record EnrolIsInRange (enrol : Enrol) : Type 0 where
@@ -231,6 +273,8 @@ IsCommand (command_is.Enroll enrol) = EnrolIsInRange enrol
 IsCommand (command_is.Pay id serial amount) = AskIsInRange (asks.Pay amount)
 IsCommand (command_is.Set id serial units) = AskIsInRange (asks.Set units)
 IsCommand (command_is.Price serial from price) = ChangeIsInRange (change_to serial from price)
+IsCommand (command_is.Quote serial amount) = AskIsInRange (asks.Pay amount)
+IsCommand (command_is.Skip serial to) = to ≤ GREAT
 IsCommand _ = Unit {0}
 
 -- What an answer holds is in range.

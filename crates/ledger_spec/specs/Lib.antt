@@ -13,3 +13,4 @@ pub mod Sound
 pub mod Reading
 pub mod AnswerText
 pub mod JsonLine
+pub mod Stuck

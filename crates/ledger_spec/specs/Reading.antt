@@ -56,6 +56,8 @@ verb_of word =
     else if bytes_eq word (codes "show") then Some verb_is.Show
     else if bytes_eq word (codes "raise") then Some verb_is.Raise
     else if bytes_eq word (codes "price") then Some verb_is.Price
+    else if bytes_eq word (codes "quote") then Some verb_is.Quote
+    else if bytes_eq word (codes "skip") then Some verb_is.Skip
     else None
 
 -- Rule 1: `do` names a command.
@@ -106,6 +108,10 @@ units_in value = number_at (is_within 0 995) (codes "units") value
 abbrev pub from_in : Data → Option ℕ
 from_in value = number_at (is_within 0 GREAT) (codes "from") value
 
+-- Rule 13: `to` is a count that a device may have at all: a whole number up to 16,383.
+abbrev pub to_in : Data → Option ℕ
+to_in value = number_at (is_within 0 GREAT) (codes "to") value
+
 -- What follows from a needed member that keeps its rule; a line that breaks the rule is refused by its number.
 abbrev pub need : {A : Type 0} → ℕ → Option A → (A → Result Command TextFault) → Result Command TextFault
 need rule None next = Err (Shape rule)
@@ -141,6 +147,10 @@ command_of value verb_is.Raise = need 2 (serial_in value) (λ serial. Ok (comman
 command_of value verb_is.Price =
     need 2 (serial_in value) (λ serial. need 8 (price_in value) (λ price. need 12 (from_in value) (λ from.
     Ok (command_is.Price serial from price))))
+command_of value verb_is.Quote =
+    need 2 (serial_in value) (λ serial. need 10 (amount_in value) (λ amount. Ok (command_is.Quote serial amount)))
+command_of value verb_is.Skip =
+    need 2 (serial_in value) (λ serial. need 13 (to_in value) (λ to. Ok (command_is.Skip serial to)))
 
 -- The command of a JSON value.
 abbrev pub command_at : Option Data → Result Command TextFault

@@ -125,6 +125,24 @@ raised_by found tables =
 abbrev pub with_raised : List ℕ → Tables → Tables
 with_raised serial tables = raised_by (row_of tables serial) tables
 
+-- The row with its last count lifted.
+abbrev pub lifted_row : ℕ → Row → Row
+lifted_row to row = record row { last = to }
+
+-- The rows with the last count lifted in one that was found, if one was.
+abbrev pub rows_lifted : ℕ → Option Row → List Row → List Row
+rows_lifted to None rows = rows
+rows_lifted to (Some row) rows = rows_with (lifted_row to row) rows
+
+-- The tables with the last count lifted in a row that was found, if one was.
+abbrev pub lifted_by : ℕ → Option Row → Tables → Tables
+lifted_by to found tables =
+    record { rows = rows_lifted to found tables.rows; orders = tables.orders; changes = tables.changes }
+
+-- The tables with the last count lifted in the row of a device.
+abbrev pub with_lifted : ℕ → List ℕ → Tables → Tables
+with_lifted to serial tables = lifted_by to (row_of tables serial) tables
+
 -- Whether this is a limit that a row may have.
 abbrev pub is_limit : ℕ → Bool
 is_limit limit = (limit == LAST) || (limit == GREAT)

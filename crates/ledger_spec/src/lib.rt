@@ -138,6 +138,12 @@ pub enum Command {
     /// The price of a device's unit is to be another, from 1 to 1,000,000,000, for tokens whose count is above `from`,
     /// the last one so far, at most 16,383. A change that is kept with that price is told again.
     Price { serial: Name, from: u16, price: u64 },
+    /// What a payment would be sold now is to be told, from 1 to 1,000,000,000,000. Nothing changes.
+    Quote { serial: Name, amount: u64 },
+    /// The last count of a device's row is to be lifted to a count, from 0 to 16,383, so that none up to it is ever issued
+    /// any more: that of a shop that had to go back to an older copy of its tables. A row whose last count is that one or a
+    /// greater one is told as it is.
+    Skip { serial: Name, to: u16 },
 }
 
 /// What a line of the ledger is for, as its member `do` names it.
@@ -161,10 +167,15 @@ pub enum Verb {
     Raise,
     /// `price`: the price of one unit is to change.
     Price,
+    /// `quote`: what a payment would be sold is to be told.
+    Quote,
+    /// `skip`: the last count of a device is to be lifted.
+    Skip,
 }
 
 /// What the ledger answers to a command. A refused command changes nothing. Where several refusals apply, the first of
-/// `NoDevice`, `IdUsed`, `SerialUsed`, `Closed`, `Small`, `Large`, `NoCount`, `NoOrder`, `PriceUsed` and `Stale` comes.
+/// `NoDevice`, `IdUsed`, `SerialUsed`, `Closed`, `Small`, `Large`, `NoCount`, `NoOrder`, `PriceUsed`, `Stale` and `Beyond`
+/// comes.
 #[derive(Clone, Copy, Debug)]
 pub enum Answer {
     /// The order that was issued, or that is kept under the id, and the form of its device.
@@ -197,6 +208,28 @@ pub enum Answer {
     PriceUsed { price: u64 },
     /// Refused: the price isn't changed from that count on, which isn't the last count of the row. The last count.
     Stale { last: u16 },
+    /// What the payment would be sold, if it were made under a new id now.
+    Quote(Quote),
+    /// Refused: the last count can't be lifted above the row's limit, which is told.
+    Beyond { limit: u16 },
+}
+
+/// What a payment would be sold.
+#[derive(Clone, Copy, Debug)]
+pub struct Quote {
+    /// The serial of the device.
+    pub serial: Name,
+    /// What the token would do on the device.
+    pub kind: Kind,
+    /// Its count, from 1 to 16,383.
+    pub count: u16,
+    /// Its value, from 0 to 999.
+    pub value: u16,
+    /// What would be left over of the payments.
+    pub rest: u64,
+    /// Whether a device that has the row's last count, and its limit, has the count in reach. One that doesn't finds the token
+    /// only once it has moved on, as by a sync token.
+    pub near: bool,
 }
 
 /// What is issued for what is asked, where it isn't refused.
@@ -225,7 +258,7 @@ pub enum TextFault {
     /// The line has no JSON value. So is answered a line that isn't UTF-8 or isn't JSON, and JSON of which there is no
     /// reading: it nests deeper than 127, a number in it is too great for a float, or a text has half of a surrogate pair.
     Json,
-    /// The line has a JSON value, and breaks this rule, the least of those that it breaks: from 1 to 12.
+    /// The line has a JSON value, and breaks this rule, the least of those that it breaks: from 1 to 13.
     Shape { rule: u8 },
     /// There was no memory.
     Memory,

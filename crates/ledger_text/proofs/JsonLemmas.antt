@@ -15,12 +15,13 @@ use Rattle.ledger_spec.specs.declared.Kind.TheVariants as kind_is
 use Rattle.ledger_spec.specs.declared.Row.{Row}
 use Rattle.ledger_spec.specs.declared.Order.{Order}
 use Rattle.ledger_spec.specs.declared.PriceChange.{PriceChange}
+use Rattle.ledger_spec.specs.declared.Quote.{Quote}
 use Rattle.ledger_spec.specs.declared.Answer.{Answer}
 use Rattle.ledger_spec.specs.declared.Answer.TheVariants as answer_is
 use Rattle.ledger_spec.specs.declared.TextFault.{TextFault}
 use Rattle.ledger_spec.specs.declared.TextFault.TheVariants as fault_is
 use Rattle.ledger_spec.specs.Names.{is_name_byte}
-use Rattle.ledger_spec.specs.AnswerText.{Member, number, text, truth, word_of, with_name, with_member, with_members, done_text, refused_text, kind_name, order_members, limit_members, row_members, change_members, text_of_answer, text_of_fault}
+use Rattle.ledger_spec.specs.AnswerText.{Member, number, text, truth, word_of, with_name, with_member, with_members, done_text, refused_text, kind_name, order_members, limit_members, row_members, change_members, quote_members, text_of_answer, text_of_fault}
 use Rattle.ledger_spec.specs.JsonLine.{is_printed, is_plain_byte, is_plain, is_plain_member, quoted, json_member, json_more, json_object, IsJsonLine, IsNamedOrder, IsNamed}
 
 -- ---- tests on all bytes
@@ -197,6 +198,10 @@ row_is_plain row named =
 change_is_plain : (change : PriceChange) → list_all is_name_byte change.serial ≡ true → list_all is_plain_member (change_members change) ≡ true
 change_is_plain change named = join (is_plain change.serial) true (name_is_plain change.serial named) refl
 
+quote_is_plain : (quote : Quote) → list_all is_name_byte quote.serial ≡ true → list_all is_plain_member (quote_members quote) ≡ true
+quote_is_plain quote named =
+    join (is_plain quote.serial) _ (name_is_plain quote.serial named) (join (is_plain (kind_name quote.kind)) true (kind_is_plain quote.kind) refl)
+
 done_line : (what : List ℕ) (members : List Member) → is_plain what ≡ true → list_all is_plain_member members ≡ true → IsJsonLine (done_text what members)
 done_line what members h k = line_of _ (text (codes "ok") what ∷ members) (done_is what members) (join (is_plain what) _ h k)
 
@@ -221,6 +226,8 @@ answer_is_line (answer_is.Large units) named = refused_line 6 (codes "large") (n
 answer_is_line (answer_is.NoCount last) named = refused_line 7 (codes "no count") (number (codes "last") last ∷ []) refl refl
 answer_is_line answer_is.NoOrder named = refused_line 8 (codes "no order") [] refl refl
 answer_is_line (answer_is.PriceUsed price) named = refused_line 11 (codes "price used") (number (codes "price") price ∷ []) refl refl
+answer_is_line (answer_is.Quote quote) named = done_line (codes "quote") (quote_members quote) refl (quote_is_plain quote named)
+answer_is_line (answer_is.Beyond limit) named = refused_line 13 (codes "beyond") (number (codes "limit") limit ∷ []) refl refl
 answer_is_line (answer_is.Stale last) named = refused_line 12 (codes "stale") (number (codes "last") last ∷ []) refl refl
 
 pub fault_is_line : (fault : TextFault) → fault ≢ fault_is.Memory → IsJsonLine (text_of_fault fault)

@@ -8,7 +8,7 @@ use Rattle.ledger_spec.specs.declared.TextFault.{TextFault}
 use Rattle.ledger_spec.specs.declared.TextFault.TheVariants.{Json, Shape, Memory}
 use Rattle.ledger_spec.specs.declared.Verb.{Verb}
 use Rattle.ledger_spec.specs.declared.Verb.TheVariants as verb_is
-use Rattle.ledger_spec.specs.Reading.{reading, need, command_of, command_at, command_in, verb_in, serial_in, id_in, secret_in, start_in, divider_in, form_in, price_in, total_in, amount_in, units_in, from_in}
+use Rattle.ledger_spec.specs.Reading.{reading, need, command_of, command_at, command_in, verb_in, serial_in, id_in, secret_in, start_in, divider_in, form_in, price_in, total_in, amount_in, units_in, from_in, to_in}
 use Rattle.ledger_text.specs.Rules.{keeps, needed_by, rules_with, rules_for, is_among, IsLeastBroken}
 
 -- ---- the first number of a rising list that fails a test
@@ -139,6 +139,8 @@ by_verb value verb_is.Order = step 3 (id_in value) _ _ (λ _. refl)
 by_verb value verb_is.Show = step 2 (serial_in value) _ _ (λ _. refl)
 by_verb value verb_is.Raise = step 2 (serial_in value) _ _ (λ _. refl)
 by_verb value verb_is.Price = step 2 (serial_in value) _ _ (λ _. step 8 (price_in value) _ _ (λ _. step 12 (from_in value) _ _ (λ _. refl)))
+by_verb value verb_is.Quote = step 2 (serial_in value) _ _ (λ _. step 10 (amount_in value) _ _ (λ _. refl))
+by_verb value verb_is.Skip = step 2 (serial_in value) _ _ (λ _. step 13 (to_in value) _ _ (λ _. refl))
 
 by_value : (value : Data) (verb : Option Verb) → verb_in value ≡ verb
     → told (need 1 verb (command_of value)) ≡ Some (first_failing (keeps value) (rules_with verb))
@@ -162,6 +164,8 @@ rising_with (Some verb_is.Order) = refl
 rising_with (Some verb_is.Show) = refl
 rising_with (Some verb_is.Raise) = refl
 rising_with (Some verb_is.Price) = refl
+rising_with (Some verb_is.Quote) = refl
+rising_with (Some verb_is.Skip) = refl
 
 shape_told : (r : Result Command TextFault) (rule : ℕ) → told r ≡ Some (Some rule) → r ≡ Err (Shape rule)
 shape_told (Ok command) rule h = cc

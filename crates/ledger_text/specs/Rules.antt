@@ -4,7 +4,7 @@ use Rattle.std.specs.List.{list_any}
 use Rattle.serde_json.specs.Data.{Data}
 use Rattle.ledger_spec.specs.declared.Verb.{Verb}
 use Rattle.ledger_spec.specs.declared.Verb.TheVariants as verb_is
-use Rattle.ledger_spec.specs.Reading.{verb_in, serial_in, id_in, secret_in, start_in, divider_in, form_in, price_in, total_in, amount_in, units_in, from_in}
+use Rattle.ledger_spec.specs.Reading.{verb_in, serial_in, id_in, secret_in, start_in, divider_in, form_in, price_in, total_in, amount_in, units_in, from_in, to_in}
 
 -- Whether a JSON value keeps a rule: its member is there and of its form.
 abbrev pub keeps : Data → ℕ → Bool
@@ -20,7 +20,8 @@ keeps value rule =
     else if rule == 9 then is_some (total_in value)
     else if rule == 10 then is_some (amount_in value)
     else if rule == 11 then is_some (units_in value)
-    else is_some (from_in value)
+    else if rule == 12 then is_some (from_in value)
+    else is_some (to_in value)
 
 -- The rules of the members that a command needs.
 abbrev pub needed_by : Verb → List ℕ
@@ -33,6 +34,8 @@ needed_by verb_is.Order = 3 ∷ []
 needed_by verb_is.Show = 2 ∷ []
 needed_by verb_is.Raise = 2 ∷ []
 needed_by verb_is.Price = 2 ∷ 8 ∷ 12 ∷ []
+needed_by verb_is.Quote = 2 ∷ 10 ∷ []
+needed_by verb_is.Skip = 2 ∷ 13 ∷ []
 
 -- The rules that a value has to keep: that of `do`, and where it names a command, those of its members.
 abbrev pub rules_with : Option Verb → List ℕ

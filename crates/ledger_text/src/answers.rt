@@ -1,12 +1,13 @@
 // The lines of the ledger's answers.
-ghost use Rattle.std.specs.Prelude.{◌≡◌, ◌+◌, ◌≤◌, ◌++◌, [], ◌∷◌, false, length, take, drop, codes};
-ghost use Rattle.ledger_spec.specs.AnswerText.{number, with_members, order_members, row_members, change_members, refused_text, text_of_answer, text_of_fault};
+ghost use Rattle.std.specs.Prelude.{◌≡◌, ◌+◌, ◌≤◌, ◌<◌, ◌^◌, ◌++◌, [], ◌∷◌, false, length, take, drop, codes};
+ghost use Rattle.ledger_spec.specs.Ledger.{AnswerIsInRange};
+ghost use Rattle.ledger_spec.specs.AnswerText.{number, with_members, order_members, row_members, change_members, quote_members, refused_text, text_of_answer, text_of_fault};
 ghost use Rattle.ledger_text.specs.Refusals.{is_refusal};
 
-use crate::orders::push_order;
+use crate::orders::{push_order, push_quote};
 use crate::pieces::{done, push_number, refused};
 use crate::rows::{push_change, push_row};
-use ledger_spec::{Answer, Order, PriceChange, Row, TextFault};
+use ledger_spec::{Answer, Order, PriceChange, Quote, Row, TextFault};
 use line_text::Line;
 use paygo_spec::Form;
 
@@ -42,6 +43,18 @@ fn with_change(beginning: Line, change: &PriceChange) -> Line
 {
     let mut line = beginning;
     push_change(&mut line, change);
+    line.push(b"}");
+    line
+}
+
+// The line with a quote behind its beginning.
+fn with_quote(beginning: Line, quote: &Quote) -> Line
+    requires { length beginning ≤ 60 }
+    ensures text { result ≡ with_members beginning (quote_members quote.now) ++ codes "}" }
+    ensures len { length result ≤ 511 }
+{
+    let mut line = beginning;
+    push_quote(&mut line, quote);
     line.push(b"}");
     line
 }
@@ -100,6 +113,7 @@ fn refusal_line(answer: &Answer) -> Line
         Answer::NoCount { last } => numbered(7, b"no count", b"last", u64::from(*last)),
         Answer::PriceUsed { price } => numbered(11, b"price used", b"price", *price),
         Answer::Stale { last } => numbered(12, b"stale", b"last", u64::from(*last)),
+        Answer::Beyond { limit } => numbered(13, b"beyond", b"limit", u64::from(*limit)),
         _ => bare(8, b"no order"),
     }
 }
@@ -117,6 +131,7 @@ pub fn answer_line(answer: &Answer) -> Line
         Answer::Order(order, form) => with_order(done(b"order"), order, *form),
         Answer::Row(row) => with_row(done(b"row"), row),
         Answer::Price(change) => with_change(done(b"price"), change),
+        Answer::Quote(quote) => with_quote(done(b"quote"), quote),
         _ => refusal_line(answer),
     }
 }

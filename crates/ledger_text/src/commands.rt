@@ -6,7 +6,7 @@ ghost use Rattle.ledger_spec.specs.Ledger.{IsCommand};
 ghost use Rattle.ledger_spec.specs.Reading.{command_of, command_at};
 
 use crate::members::{
-    amount, divider, form, from, id, key, price, serial, start, total, units, verb,
+    amount, divider, form, from, id, key, price, serial, start, to, total, units, verb,
 };
 use ledger_spec::{Command, Enrol, TextFault, Verb};
 use serde_json::Value;
@@ -119,6 +119,24 @@ fn change_price(value: &Value) -> Result<Command, TextFault>
     })
 }
 
+fn quote(value: &Value) -> Result<Command, TextFault>
+    ensures value { result ≡ command_of (view value.now) Verb.Quote }
+    ensures in_range { IfOk result IsCommand }
+{
+    let serial = need(2, serial(value))?;
+    let amount = need(10, amount(value))?;
+    Ok(Command::Quote { serial, amount })
+}
+
+fn skip(value: &Value) -> Result<Command, TextFault>
+    ensures value { result ≡ command_of (view value.now) Verb.Skip }
+    ensures in_range { IfOk result IsCommand }
+{
+    let serial = need(2, serial(value))?;
+    let to = need(13, to(value))?;
+    Ok(Command::Skip { serial, to })
+}
+
 // The command of a value.
 pub(crate) fn command(value: &Value) -> Result<Command, TextFault>
     ensures value { result ≡ command_at (Some (view value.now)) }
@@ -134,5 +152,7 @@ pub(crate) fn command(value: &Value) -> Result<Command, TextFault>
         Verb::Show => show(value),
         Verb::Raise => raise(value),
         Verb::Price => change_price(value),
+        Verb::Quote => quote(value),
+        Verb::Skip => skip(value),
     }
 }

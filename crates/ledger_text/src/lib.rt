@@ -17,6 +17,7 @@ pub use laws::{key_is_never_written, refused_lines};
 pub use ledger_spec::{Answer, Command, Enrol, TextFault};
 pub use lines::read;
 pub use one_line::{each_answer_is_one_line, each_fault_is_one_line, token_is_digits};
+pub use orders::kind_word;
 
 #[cfg(test)]
 mod tests;

@@ -11,7 +11,7 @@ use std::alloc::Global;
 /// What a line of the ledger asks for.
 ///
 /// `Json` comes exactly where the line has no JSON value, and `Shape` where its value breaks a rule on the members that
-/// the command needs: it holds the least broken rule, from 1 to 12. `Memory` comes where there was no memory to read the
+/// the command needs: it holds the least broken rule, from 1 to 13. `Memory` comes where there was no memory to read the
 /// line in, and says nothing of the line. A command is in range.
 pub fn read(alloc: Global, line: &[u8]) -> Result<Command, TextFault>
     ensures value { result ≢ Err TextFault.Memory → result ≡ command_in line.now }

@@ -3,7 +3,7 @@ ghost use Rattle.std.specs.Prelude.{◌≡◌, ◌≤◌, ◌<◌, ◌^◌, true
 ghost use Rattle.serde_json.specs.View.{view};
 ghost use Rattle.paygo_spec.specs.declared.TheConstants.{GREAT};
 ghost use Rattle.paygo_spec.specs.Clock.{divides_day};
-ghost use Rattle.ledger_spec.specs.Reading.{text_at, whole_at, number_at, is_within, verb_of, verb_in, serial_in, id_in, secret_in, start_in, divider_in, form_in, price_in, total_in, amount_in, units_in, from_in};
+ghost use Rattle.ledger_spec.specs.Reading.{text_at, whole_at, number_at, is_within, verb_of, verb_in, serial_in, id_in, secret_in, start_in, divider_in, form_in, price_in, total_in, amount_in, units_in, from_in, to_in};
 
 use ledger_spec::{Name, Verb};
 use paygo_spec::{Form, GREAT, is_divider};
@@ -51,6 +51,8 @@ fn named(word: &[u8]) -> Option<Verb>
         b"show" => Some(Verb::Show),
         b"raise" => Some(Verb::Raise),
         b"price" => Some(Verb::Price),
+        b"quote" => Some(Verb::Quote),
+        b"skip" => Some(Verb::Skip),
         _ => None,
     }
 }
@@ -155,5 +157,14 @@ pub(crate) fn from(value: &Value) -> Option<u16>
     ensures most { IfSome result (λ n. n ≤ GREAT) }
 {
     let n = number(value, "from", 0, u64::from(GREAT))?;
+    Some(n as u16)
+}
+
+// `to`
+pub(crate) fn to(value: &Value) -> Option<u16>
+    ensures value { result ≡ to_in (view value.now) }
+    ensures most { IfSome result (λ n. n ≤ GREAT) }
+{
+    let n = number(value, "to", 0, u64::from(GREAT))?;
     Some(n as u16)
 }

@@ -36,6 +36,7 @@ fn look_at_names(answer: &Answer)
         Answer::Row(row) => look_at(&row.serial),
         Answer::SerialUsed(row) => look_at(&row.serial),
         Answer::Price(change) => look_at(&change.serial),
+        Answer::Quote(quote) => look_at(&quote.serial),
         _ => {}
     }
 }

@@ -1,15 +1,15 @@
-// What is told of an order.
-ghost use Rattle.std.specs.Prelude.{◌≡◌, ◌+◌, ◌≤◌, length, codes};
-ghost use Rattle.ledger_spec.specs.AnswerText.{text, with_member, with_members, kind_name, number_asked, order_members};
+// What is told of an order, and of a quote.
+ghost use Rattle.std.specs.Prelude.{◌≡◌, ◌+◌, ◌≤◌, ◌<◌, ◌^◌, length, codes};
+ghost use Rattle.ledger_spec.specs.AnswerText.{text, with_member, with_members, kind_name, number_asked, order_members, quote_members};
 ghost use Rattle.paygo_spec.specs.Digits.{digits_of};
 
-use crate::pieces::{push_number, push_text};
-use ledger_spec::{Ask, Kind, Order};
+use crate::pieces::{push_number, push_text, push_truth};
+use ledger_spec::{Ask, Kind, Order, Quote};
 use line_text::Line;
 use paygo_spec::Form;
 
-// The word of a kind.
-fn word(kind: Kind) -> &'static [u8]
+/// The word of a kind: `add`, `set`, `disable` or `sync`.
+pub fn kind_word(kind: Kind) -> &'static [u8]
     ensures word { result.now ≡ kind_name kind }
     ensures len { length result.now ≤ 10 }
 {
@@ -51,9 +51,23 @@ pub(crate) fn push_order(line: &mut Line, order: &Order, form: Form)
 {
     push_text(line, b"id", order.id.bytes());
     push_text(line, b"serial", order.serial.bytes());
-    push_text(line, b"kind", word(order.kind));
+    push_text(line, b"kind", kind_word(order.kind));
     push_number(line, b"asked", asked(order.ask));
     push_number(line, b"count", u64::from(order.count));
     push_number(line, b"value", u64::from(order.value));
     push_token(line, form, order.token);
+}
+
+// Puts the members of a quote at the end.
+pub(crate) fn push_quote(line: &mut Line, quote: &Quote)
+    requires { length line.old ≤ 60 }
+    ensures text { line.new ≡ with_members line.old (quote_members quote.now) }
+    ensures len { length line.new ≤ 433 }
+{
+    push_text(line, b"serial", quote.serial.bytes());
+    push_text(line, b"kind", kind_word(quote.kind));
+    push_number(line, b"count", u64::from(quote.count));
+    push_number(line, b"value", u64::from(quote.value));
+    push_number(line, b"rest", quote.rest);
+    push_truth(line, b"near", quote.near);
 }

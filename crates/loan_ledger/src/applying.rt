@@ -3,9 +3,10 @@ ghost use Rattle.std.specs.Prelude.{IfOk};
 ghost use Rattle.ledger_spec.specs.Ledger.{done, IsCommand, AnswerIsInRange};
 ghost use Rattle.ledger_spec.specs.Applied.{Applies};
 
-use crate::changing::{raise, reprice};
+use crate::changing::{raise, reprice, skip};
 use crate::enrolling::enroll;
 use crate::issuing::ask;
+use crate::quoting::quote;
 use crate::telling::{tell_order, tell_row};
 use ledger_keeper::Keeper;
 use ledger_spec::{Answer, Ask, Command, LedgerFault, PriceChange};
@@ -19,7 +20,8 @@ use token_issue::Tables;
 /// The keeper is called no more than the answer needs, in this order: `Enroll` asks for the device and adds it; `Pay` asks
 /// for the device, for the order of its id and, where the row isn't closed, for the prices, and adds the order; `Set`,
 /// `Disable` and `Sync` do the same without the prices; `Order` asks for the order, and `Show` for the device; `Raise` asks
-/// for the device and raises it; `Price` asks for the device and for the prices, and adds the change.
+/// for the device and raises it; `Price` asks for the device and for the prices, and adds the change; `Quote` asks for the
+/// device and for the prices; `Skip` asks for the device, and lifts its last count.
 ///
 /// # Errors
 ///
@@ -80,5 +82,9 @@ pub fn apply<M: Mixer, D: Keeper>(
                 price: *price,
             },
         ),
+        Command::Quote { serial, amount } => {
+            quote::<M, D>(alloc, keeper, tables, serial, *amount)
+        }
+        Command::Skip { serial, to } => skip(alloc, keeper, serial, *to),
     }
 }

@@ -1,8 +1,8 @@
-// Limits are raised, and prices change.
-ghost use Rattle.std.specs.Prelude.{◌≡◌, ◌==◌, None, Some, IfOk, IfSome, IsSome, if◌then◌else◌};
+// Limits are raised, last counts are lifted, and prices change.
+ghost use Rattle.std.specs.Prelude.{◌≡◌, ◌<◌, ◌≤◌, ◌==◌, nat_le, nat_lt, None, Some, IfOk, IfSome, IsSome, if◌then◌else◌};
 ghost use Rattle.paygo_spec.specs.declared.TheConstants.{LAST as LOW};
-ghost use Rattle.ledger_spec.specs.Tables.{row_of, change_of, raised_row, RowIsInRange, ChangeIsInRange};
-ghost use Rattle.ledger_spec.specs.Ledger.{raises, raised_at, repriced, changed_of, changed_at, AnswerIsInRange};
+ghost use Rattle.ledger_spec.specs.Tables.{row_of, change_of, raised_row, lifted_row, RowIsInRange, ChangeIsInRange};
+ghost use Rattle.ledger_spec.specs.Ledger.{raises, raised_at, skipped, skipped_at, lifted_at, repriced, changed_of, changed_at, AnswerIsInRange};
 ghost use Rattle.ledger_spec.specs.Applied.{Applies};
 
 use crate::deciding::change_from;
@@ -54,6 +54,78 @@ pub(crate) fn raise<D: Keeper>(
 {
     match keeper.device(alloc, serial) {
         Ok(Some(row)) => raise_row(alloc, keeper, &row),
+        Ok(None) => Ok(Answer::NoDevice),
+        Err(fault) => Err(fault_of(fault)),
+    }
+}
+
+// The row with its last count lifted.
+#[tactic(auto, using(ledger_spec::proofs::KeptLemmas::lifted_fits))]
+fn with_last(row: &Row, to: u16) -> Row
+    requires row { RowIsInRange row.now }
+    requires above { row.now.last < to }
+    requires within { to ≤ row.now.limit }
+    ensures row { result ≡ lifted_row to row.now }
+    ensures in_range { RowIsInRange result }
+{
+    Row { last: to, ..*row }
+}
+
+// The last count of a row is lifted, where its limit allows that.
+fn lift_row<D: Keeper>(
+    alloc: Global,
+    keeper: &mut D,
+    row: &Row,
+    to: u16,
+) -> Result<Answer, LedgerFault>
+    requires row { RowIsInRange row.now }
+    requires above { row.now.last < to }
+    requires kept { IfSome (D.view keeper.old).tables (λ t. row_of t row.now.serial ≡ Some row.now) }
+    ensures applied { Applies (λ t. lifted_at t to row.now (nat_le to row.now.limit)) result
+        (D.view keeper.old) (D.view keeper.new) }
+    ensures in_range { IfOk result AnswerIsInRange }
+{
+    if to > row.limit {
+        return Ok(Answer::Beyond { limit: row.limit });
+    }
+    match keeper.skip(alloc, &row.serial, to) {
+        Ok(()) => Ok(Answer::Row(with_last(row, to))),
+        Err(fault) => Err(fault_of(fault)),
+    }
+}
+
+// The last count of a row is lifted, where it is lower.
+fn skip_row<D: Keeper>(
+    alloc: Global,
+    keeper: &mut D,
+    row: &Row,
+    to: u16,
+) -> Result<Answer, LedgerFault>
+    requires row { RowIsInRange row.now }
+    requires kept { IfSome (D.view keeper.old).tables (λ t. row_of t row.now.serial ≡ Some row.now) }
+    ensures applied { Applies (λ t. skipped_at t to row.now (nat_lt row.now.last to)) result
+        (D.view keeper.old) (D.view keeper.new) }
+    ensures in_range { IfOk result AnswerIsInRange }
+{
+    if row.last >= to {
+        return Ok(Answer::Row(*row));
+    }
+    lift_row(alloc, keeper, row, to)
+}
+
+// The last count of a device is lifted.
+pub(crate) fn skip<D: Keeper>(
+    alloc: Global,
+    keeper: &mut D,
+    serial: &Name,
+    to: u16,
+) -> Result<Answer, LedgerFault>
+    ensures applied { Applies (λ t. skipped t to (row_of t serial.now)) result
+        (D.view keeper.old) (D.view keeper.new) }
+    ensures in_range { IfOk result AnswerIsInRange }
+{
+    match keeper.device(alloc, serial) {
+        Ok(Some(row)) => skip_row(alloc, keeper, &row, to),
         Ok(None) => Ok(Answer::NoDevice),
         Err(fault) => Err(fault_of(fault)),
     }

@@ -76,7 +76,7 @@ fn keep<M: Mixer, D: Keeper>(
 }
 
 // The count at which an issue is kept, and its token: the count is the least one that there is for it.
-fn chosen_for<M: Mixer>(
+pub(crate) fn chosen_for<M: Mixer>(
     alloc: Global,
     tables: &mut Tables<M>,
     price: u64,

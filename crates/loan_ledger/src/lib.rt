@@ -8,6 +8,7 @@ mod deciding;
 mod enrolling;
 mod findings;
 mod issuing;
+mod quoting;
 mod telling;
 
 pub use applying::apply;

@@ -52,6 +52,10 @@ enum Seen {
     PriceUsed(u64),
     /// The last count.
     Stale(u16),
+    /// A quote: its kind, its count, its value, its rest, and whether it is near.
+    Quote(Kind, u16, u16, u64, bool),
+    /// The limit.
+    Beyond(u16),
     KeeperFailed,
     NoMemory,
 }
@@ -75,6 +79,14 @@ fn seen_in(answer: Result<Answer, LedgerFault>) -> Seen {
         Ok(Answer::NoOrder) => Seen::NoOrder,
         Ok(Answer::PriceUsed { price }) => Seen::PriceUsed(price),
         Ok(Answer::Stale { last }) => Seen::Stale(last),
+        Ok(Answer::Quote(quote)) => Seen::Quote(
+            quote.kind,
+            quote.count,
+            quote.value,
+            quote.rest,
+            quote.near,
+        ),
+        Ok(Answer::Beyond { limit }) => Seen::Beyond(limit),
         Err(LedgerFault::Keeper) => Seen::KeeperFailed,
         Err(LedgerFault::Memory) => Seen::NoMemory,
     }
@@ -188,5 +200,25 @@ fn price(rt: &impl Abort, serial: &[u8], from: u16, price: u64) -> Command
         serial: name(rt, serial),
         from,
         price,
+    }
+}
+
+fn quote(rt: &impl Abort, serial: &[u8], amount: u64) -> Command
+    requires { (1 ≤ amount) × (amount ≤ 10 ^ 12) }
+    ensures { IsCommand result }
+{
+    Command::Quote {
+        serial: name(rt, serial),
+        amount,
+    }
+}
+
+fn skip(rt: &impl Abort, serial: &[u8], to: u16) -> Command
+    requires { to ≤ 16383 }
+    ensures { IsCommand result }
+{
+    Command::Skip {
+        serial: name(rt, serial),
+        to,
     }
 }

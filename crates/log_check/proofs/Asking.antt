@@ -21,7 +21,7 @@ use Rattle.ledger_spec.specs.declared.Verb.{Verb}
 use Rattle.ledger_spec.specs.declared.Verb.TheVariants as verb_is
 use Rattle.ledger_spec.specs.Ledger.{IsCommand}
 use Rattle.ledger_spec.specs.Names.{name_in, is_name_byte, may_be_name}
-use Rattle.ledger_spec.specs.Reading.{text_at, whole_at, passed, number_at, is_within, serial_in, id_in, secret_in, start_in, divider_in as unit_in, form_in as entry_form_in, price_in, total_in, amount_in, units_in, from_in, verb_in, need, command_of, command_at, command_in, reading}
+use Rattle.ledger_spec.specs.Reading.{text_at, whole_at, passed, number_at, is_within, serial_in, id_in, secret_in, start_in, divider_in as unit_in, form_in as entry_form_in, price_in, total_in, amount_in, units_in, from_in, to_in, verb_in, need, command_of, command_at, command_in, reading}
 use Rattle.run_spec.specs.declared.Mode.TheVariants as mode
 use Rattle.run_spec.specs.DeviceLines.{divider_in, field, form_in, config_in, is_key_text, are_key_text, presses, one, word_in, make_in, tick_in, pressed_in, keys_in, events_in}
 use Rattle.run_spec.specs.Meaning.{trimmed, step_of_reading, steps_of_device, steps_of_ledger, steps_of_text, steps_of_line}
@@ -253,6 +253,12 @@ command_good value verb_is.Price =
     (within_good 1 (10 ^ 9) (codes "price") value) (λ price a.
     need_good (λ n. (0 ≤ n) × (n ≤ GREAT)) 12 (from_in value) _ (within_good 0 GREAT (codes "from") value)
     (λ from b. record { from = b.1; price = a })))
+command_good value verb_is.Quote =
+    free 2 (serial_in value) _ (λ serial. need_good (λ n. (1 ≤ n) × (n ≤ 10 ^ 12)) 10 (amount_in value) _
+    (within_good 1 (10 ^ 12) (codes "amount") value) (λ amount a. a))
+command_good value verb_is.Skip =
+    free 2 (serial_in value) _ (λ serial. need_good (λ n. (0 ≤ n) × (n ≤ GREAT)) 13 (to_in value) _
+    (within_good 0 GREAT (codes "to") value) (λ to a. a.1))
 
 command_at_good : (value : Option Data) → Good (command_at value)
 command_at_good None = tt

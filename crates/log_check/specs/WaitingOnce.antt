@@ -51,6 +51,8 @@ command_prop (command_is.Order id) = hlevel props
 command_prop (command_is.Show serial) = hlevel props
 command_prop (command_is.Raise serial) = hlevel props
 command_prop (command_is.Price serial from price) = hlevel props
+command_prop (command_is.Quote serial amount) = hlevel props
+command_prop (command_is.Skip serial to) = hlevel props
 
 pub waiting_prop : (waiting : Waiting) → IsProp (IsWaiting waiting)
 waiting_prop waits.Unread = hlevel props

@@ -69,6 +69,14 @@ impl Keeper for SureKeeper {
         self.keeper.raise(alloc, serial)
     }
 
+    fn skip(&mut self, alloc: Global, serial: &Name, to: u16) -> Result<(), KeeperFault> {
+        self.keeper.skip(alloc, serial, to)
+    }
+
+    fn orders_back(&mut self, alloc: Global, serial: &Name) -> Result<Vec<Order>, KeeperFault> {
+        self.keeper.orders_back(alloc, serial)
+    }
+
     fn add_price(&mut self, alloc: Global, change: &PriceChange) -> Result<(), KeeperFault> {
         self.keeper.add_price(alloc, change)
     }

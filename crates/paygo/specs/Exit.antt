@@ -5,7 +5,7 @@ use Rattle.std.specs.declared.io.ErrorKind.TheVariants.{OutOfMemory}
 use Rattle.std.specs.declared.option.Option.{Option}
 use Rattle.run_spec.specs.declared.Status.{Status}
 use Rattle.run_spec.specs.declared.Status.TheVariants as status
-use Rattle.paygo_cli.specs.Forms.{message_of}
+use Rattle.command_words.specs.Forms.{message_of}
 
 -- The number with which the program ends, by how its run ended.
 abbrev pub exit_of : Status → ℕ

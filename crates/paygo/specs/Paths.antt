@@ -1,5 +1,5 @@
 -- The files that the words of the command line name.
-use Rattle.std.specs.Prelude.{ℕ, List, [], ◌∷◌, codes, if◌then◌else◌}
+use Rattle.std.specs.Prelude.{ℕ, Bool, false, List, [], ◌∷◌, ◌||◌, codes, if◌then◌else◌}
 use Rattle.std.specs.Str.{bytes_eq}
 
 -- The path of the database, and that of the flash, by the first word and one file: `device FLASH`, or another word and a database.
@@ -20,3 +20,9 @@ paths_of (word ∷ file ∷ []) = paths_with word file
 paths_of (word ∷ first ∷ second ∷ []) = paths_before word first second
 paths_of (word ∷ first ∷ second ∷ third ∷ []) = path_of_tables word first
 paths_of _ = ([], [])
+
+-- Whether the words only read their database: `audit DB`, `sound DB` or `advise DB SERIAL FLOOR`.
+abbrev pub reads_alone_of : List (List ℕ) → Bool
+reads_alone_of (word ∷ file ∷ []) = bytes_eq word (codes "audit") || bytes_eq word (codes "sound")
+reads_alone_of (word ∷ first ∷ second ∷ third ∷ []) = bytes_eq word (codes "advise")
+reads_alone_of _ = false

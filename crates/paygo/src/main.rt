@@ -2,15 +2,16 @@
 // flash, of two banks or of more.
 #![tactic(auto)]
 
-ghost use Rattle.std.specs.Prelude.{◌≡◌, map, drop, IfOk, IfErr, OnOk};
+ghost use Rattle.std.specs.Prelude.{◌≡◌, ◌⊎◌, map, drop, IfOk, IfErr, OnOk};
 ghost use Rattle.std.specs.String.{string_bytes};
 ghost use Rattle.std.specs.IoError.{error_kind};
 ghost use Rattle.std.specs.Io.KnownBytes.{Appends};
 ghost use Rattle.std.specs.Process.{exit_status};
 ghost use Rattle.paygo.specs.Exit.{exit_of, line_for, ended_by};
-ghost use Rattle.paygo.specs.Paths.{path_of_tables, paths_with, paths_before, paths_of};
+ghost use Rattle.paygo.specs.Paths.{path_of_tables, paths_with, paths_before, paths_of, reads_alone_of};
 
 use bank_ring::Ring;
+use command_words::{HELP, Told, VERSION, asks_of_program, wrong_word};
 use keeper_sqlite::SqliteKeeper;
 use paygo_cli::{Status, banks_in, message, run};
 use paygo_ports::Flash;
@@ -92,7 +93,51 @@ fn run_args(rt: &HostRuntime) -> io::Result<Status> {
         args.push(arg)?;
     }
     let words = words_of(rt.alloc(), args.as_slice())?;
-    run_words(rt, words.as_slice())
+    match asks_of_program(words.as_slice()) {
+        Some(asked) => Ok(answer(&mut rt.stdout(), asked)),
+        None => {
+            let status = run_words(rt, words.as_slice())?;
+            tell_wrong(rt, words.as_slice(), status);
+            Ok(status)
+        }
+    }
+}
+
+// Writes what is asked of the program itself.
+fn answer<W: Write>(output: &mut W, asked: Told) -> Status
+    ensures { (result ≡ Status.Ok) ⊎ (result ≡ Status.Write) }
+{
+    match answer_all(output, asked) {
+        Ok(()) => Status::Ok,
+        Err(_) => Status::Write,
+    }
+}
+
+// The same, or the first fault of the output.
+fn answer_all<W: Write>(output: &mut W, asked: Told) -> io::Result<()> {
+    match asked {
+        Told::Help => output.write_all(HELP.as_bytes())?,
+        Told::Version => {
+            output.write_all(VERSION.as_bytes())?;
+            output.write_all(b"\n")?;
+        }
+    }
+    output.flush()
+}
+
+// Where the words are of no form, writes which of them is wrong, or missing, counted from 1.
+fn tell_wrong(rt: &HostRuntime, words: &[&str], status: Status) {
+    if status != Status::Usage {
+        return;
+    }
+    if let Some(place) = wrong_word(words) {
+        if place < words.len() {
+            let word = words[place];
+            let _ = eprintln!(rt; "paygo: word {} is wrong: {word}", place + 1);
+        } else {
+            let _ = eprintln!(rt; "paygo: word {} is missing", place.saturating_add(1));
+        }
+    }
 }
 
 // The words behind the program's own name.
@@ -152,6 +197,31 @@ fn path_with<'a>(word: &str, file: &'a str) -> (&'a str, &'a str)
     }
 }
 
+// Whether the words only read their database: `audit DB`, `sound DB` or `advise DB SERIAL FLOOR`.
+fn reads_alone(words: &[&str]) -> bool
+    ensures { result ≡ reads_alone_of (map (λ word. word.now) words.now) }
+{
+    match words {
+        [word, _] => *word == "audit" || *word == "sound",
+        [word, _, _, _] => *word == "advise",
+        _ => false,
+    }
+}
+
+// The keeper of the database at this path. It only reads where the words do, and then neither makes nor writes a file.
+fn keeper_for<'a>(
+    rt: &'a HostRuntime,
+    words: &[&str],
+    tables: &str,
+) -> Result<SqliteKeeper<'a>, AllocError> {
+    let path = String::from_str(rt.alloc(), tables)?;
+    if reads_alone(words) {
+        Ok(SqliteKeeper::reading(rt, path))
+    } else {
+        Ok(SqliteKeeper::at(rt, path))
+    }
+}
+
 // Runs these words over the flash that they name: a file of so many banks where they are `ring FLASH BANKS`, else one
 // of two.
 fn run_words(rt: &HostRuntime, words: &[&str]) -> io::Result<Status> {
@@ -168,8 +238,8 @@ fn run_words(rt: &HostRuntime, words: &[&str]) -> io::Result<Status> {
     }
 }
 
-// Runs these words over this flash. What is wrong with tables that were refused is told on standard error. At the end
-// the database is closed, so that its file stands alone.
+// Runs these words over this flash. Why the database failed is told on standard error. At the end it is closed, so that
+// its file stands alone.
 fn run_over<F: Flash + Drop>(
     rt: &HostRuntime,
     words: &[&str],
@@ -178,7 +248,7 @@ fn run_over<F: Flash + Drop>(
 ) -> io::Result<Status> {
     let mut source = StdinSource::new(rt);
     let mut sink = StdoutSink::new(rt);
-    let mut keeper = SqliteKeeper::at(rt, String::from_str(rt.alloc(), tables)?);
+    let mut keeper = keeper_for(rt, words, tables)?;
     let status = run::<Lanes, StdinSource<HostRuntime>, StdoutSink<HostRuntime>, SqliteKeeper, F>(
         rt.alloc(),
         words,
@@ -187,9 +257,14 @@ fn run_over<F: Flash + Drop>(
         &mut keeper,
         &mut flash,
     );
-    if let Some(misfit) = keeper.trouble() {
-        let _ = eprintln!(rt; "paygo: {misfit}");
-    }
+    tell_cause(rt, tables, &keeper);
     let _ = keeper.close();
     Ok(status)
+}
+
+// Writes why the database at this path failed, as a line, where it did.
+fn tell_cause(rt: &HostRuntime, tables: &str, keeper: &SqliteKeeper<'_>) {
+    if let Some(cause) = keeper.trouble() {
+        let _ = eprintln!(rt; "paygo: {tables}: {cause}");
+    }
 }

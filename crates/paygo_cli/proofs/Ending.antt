@@ -8,8 +8,8 @@ use Rattle.paygo_spec.specs.Flash.{FlashView}
 use Rattle.paygo_spec.specs.Streams.{SourceView, SinkView}
 use Rattle.ledger_spec.specs.Keeper.{KeeperView}
 use Rattle.line_loop.specs.Outside.{Outside, outside, Causes, FaultIf, is_keep, IsCalm}
-use Rattle.paygo_cli.specs.declared.words.Work.{Work}
-use Rattle.paygo_cli.specs.declared.words.Work.TheVariants as work
+use Rattle.command_words.specs.declared.words.Work.{Work}
+use Rattle.command_words.specs.declared.words.Work.TheVariants as work
 
 -- a count that rose isn't calm
 not_calm : (before now : ℕ) → Rose before now → IsCalm before now → ⊥

@@ -1,5 +1,5 @@
 pub mod Pieces
-pub mod Shapes
 pub mod Ending
 pub mod Fleets
 pub mod Advices
+pub mod Lists

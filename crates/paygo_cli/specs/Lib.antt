@@ -1,3 +1,3 @@
-pub mod Forms
 pub mod Ends
 pub mod Advised
+pub mod Listed

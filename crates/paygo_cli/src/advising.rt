@@ -13,8 +13,8 @@ ghost use Rattle.line_output.specs.Written.{Wrote};
 ghost use Rattle.line_loop.specs.Outside.{outside, Causes};
 ghost use Rattle.paygo_cli.specs.Advised.{order_line, text_of_list, WritesAdvice};
 
-use crate::words::Behind;
 use crate::writing::written;
+use command_words::Behind;
 use ledger_keeper::Keeper;
 use ledger_spec::{Answer, KeeperFault, Order, Row};
 use ledger_text::{answer_line, numbered};

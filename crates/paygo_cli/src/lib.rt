@@ -4,11 +4,12 @@
 
 mod advising;
 mod auditing;
+mod listing;
 mod simulating;
+mod sounding;
 mod top_call;
-mod words;
 mod writing;
 
+pub use command_words::{Behind, Candidate, Work, banks_in, message, work_in};
 pub use run_spec::Status;
 pub use top_call::run;
-pub use words::{Behind, Work, banks_in, message, work_in};

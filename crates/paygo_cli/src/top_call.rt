@@ -5,22 +5,29 @@ ghost use Rattle.ledger_spec.specs.Tables.{Tables, row_of};
 ghost use Rattle.run_spec.specs.declared.Mode.{Mode as Taken};
 ghost use Rattle.loan_ledger.specs.Audit.{audited};
 ghost use Rattle.loan_ledger.specs.AuditText.{text_of_findings};
+ghost use Rattle.table_flaws.specs.Found.{found};
+ghost use Rattle.table_flaws.specs.FlawText.{text_of_findings as text_of_flaws};
+ghost use Rattle.ledger_spec.specs.Stuck.{stuck_below};
 ghost use Rattle.line_loop.specs.Outside.{outside, Causes, IsCalm, IsLong, Reads};
 ghost use Rattle.bench_loop.specs.Runs.{RunsTold, RunsUnseen};
 ghost use Rattle.deal_runs.specs.Programs.{RunsOn};
-ghost use Rattle.paygo_cli.specs.declared.words.Behind.{Behind};
+ghost use Rattle.command_words.specs.declared.words.Behind.{Behind};
+ghost use Rattle.command_words.specs.declared.words.Candidate.{Candidate};
 ghost use Rattle.check_loop.specs.Logs.{ChecksLog};
 ghost use Rattle.sheet_loop.specs.Sheets.{RunsSheets};
-ghost use Rattle.paygo_cli.specs.Forms.{work_of, takes_lines};
+ghost use Rattle.command_words.specs.Forms.{work_of, takes_lines};
 ghost use Rattle.paygo_cli.specs.Ends.{WritesText, WritesFleet};
 ghost use Rattle.paygo_cli.specs.Advised.{WritesAdvice};
+ghost use Rattle.paygo_cli.specs.Listed.{text_of_values};
 
 use crate::advising::run_advice;
 use crate::auditing::run_audit;
+use crate::listing::run_values;
 use crate::simulating::run_simulation;
-use crate::words::{Work, work_in};
+use crate::sounding::run_sound;
 use bench_loop::run_bench;
 use check_loop::run_check;
+use command_words::{Work, work_in};
 use ledger_keeper::Keeper;
 use paygo_ports::{Flash, Sink, Source};
 use run_spec::Status;
@@ -36,19 +43,22 @@ use token_chain::Mixer;
 /// it in memory, and writes its totals. `sheets DB` takes the lines of the source as those of agents: payments for sheets of tokens,
 /// and reports of their sales, and writes behind their answers what all reports come to. `advise DB SERIAL FLOOR` writes the fewest of the serial's orders whose tokens bring a
 /// device up to date whose last count is at least the floor. `check` takes the lines of the source as a log of a `bench` run, and
-/// writes whether any run of shop and device that began with empty tables and an erased flash has it.
+/// writes whether any run of shop and device that began with empty tables and an erased flash has it. `sound DB` checks the
+/// keeper's tables whole, and writes each thing that is wrong and how many there are. `values KEY START LIMIT` writes the kinds and
+/// values that can't be sold in the reach of a device with this key and starting code whose last count is at most the limit.
 ///
 /// - `Usage` exactly where the words are no form that the program knows. Nothing is read or written then.
-/// - `Ok` where lines are taken only where the source has told its end; every line was answered. Of an audit, a fleet and an
-///   advice the whole text was written.
+/// - `Ok` where lines are taken only where the source has told its end; every line was answered. Of a run that takes
+///   none the whole text was written.
 /// - `Read` where the source failed, and only where lines are taken. Every whole line was answered.
 /// - `Write` where the sink failed. The steps of the lines were answered up to one whose answer was cut, and no later one was
-///   taken; each earlier answer was written whole. The text of an audit, a fleet or an advice was cut.
-/// - `Keep` where the keeper failed, and never for `device`, `fleet` and `check`. Every answer before that of one command was
-///   written; the tables are as before that command, or have its whole change. Of an audit and an advice nothing was written.
-/// - `Memory` where there was none for a line of the ledger, of an agent or of a log, for the audit, the fleet or the advice; never for
-///   `device`. Every answer before it was written, and the tables are those behind it. Of an audit, a fleet, an advice and a check
+///   taken; each earlier answer was written whole. The text of a run that takes no lines was cut.
+/// - `Keep` where the keeper failed, and never for `device`, `fleet`, `check` and `values`. Every answer before that of one command
+///   was written; the tables are as before that command, or have its whole change. Of an audit, a check of the tables and an advice
 ///   nothing was written.
+/// - `Memory` where there was none for a line of the ledger, of an agent or of a log, or for a run that takes no lines; never for
+///   `device`. Every answer before it was written, and the tables are those behind it. Of a run that takes no lines, and of a check
+///   of a log, nothing was written.
 /// - `Long` where lines are taken, exactly where 2^40 bytes were handed out, the source hasn't told its end, and every whole line
 ///   was answered.
 ///
@@ -70,8 +80,10 @@ use token_chain::Mixer;
 /// advice changes nothing, and over tables that are told what is written is that of the device's orders and limit (`advised`). A
 /// check writes the verdict on the log, `yes` exactly where it is the whole log of a run and never more than 64 states fit
 /// (`checked`, with the laws of log_check). The answers to agents over tables that are told are those of the ledger and of the reports,
-/// and no payment is made behind the one at which the run ends (`sold`, with the laws of sheet_loop). It takes memory but for
-/// `device`.
+/// and no payment is made behind the one at which the run ends (`sold`, with the laws of sheet_loop). A check of the tables changes
+/// nothing, and over tables that are told it writes what there is to find in them: no flaw exactly where they are sound (`sounded`,
+/// with the law of table_flaws). The listed values are those that the definition says (`listed`, with the laws of ledger_laws). It
+/// takes memory but for `device`.
 pub fn run<M: Mixer, S: Source, K: Sink, D: Keeper, F: Flash>(
     alloc: Global,
     words: &[&str],
@@ -100,6 +112,13 @@ pub fn run<M: Mixer, S: Source, K: Sink, D: Keeper, F: Flash>(
         ((D.view keeper.new).tables ≡ (D.view keeper.old).tables) × (result ≢ Status.Read) × (result ≢ Status.Long) }
     ensures check { work_of (map (λ word. word.now) words.now) ≡ Some Work.Check →
         (keeper.new ≡ keeper.old) × (flash.new ≡ flash.old) × (result ≢ Status.Keep) }
+    ensures sound { work_of (map (λ word. word.now) words.now) ≡ Some Work.Sound →
+        (source.new ≡ source.old) × (flash.new ≡ flash.old) ×
+        ((D.view keeper.new).tables ≡ (D.view keeper.old).tables) × (result ≢ Status.Read) × (result ≢ Status.Long) }
+    ensures values { (candidate : Candidate) →
+        work_of (map (λ word. word.now) words.now) ≡ Some (Work.Values candidate) →
+        (source.new ≡ source.old) × (keeper.new ≡ keeper.old) × (flash.new ≡ flash.old) × (result ≢ Status.Read) ×
+        (result ≢ Status.Keep) × (result ≢ Status.Long) }
     ensures causes { Causes (Some result)
         (outside (S.view source.old) (K.view sink.old) (D.view keeper.old) (F.view flash.old))
         (outside (S.view source.new) (K.view sink.new) (D.view keeper.new) (F.view flash.new)) }
@@ -142,6 +161,13 @@ pub fn run<M: Mixer, S: Source, K: Sink, D: Keeper, F: Flash>(
         (K.view sink.old) (K.view sink.new) }
     ensures checked { work_of (map (λ word. word.now) words.now) ≡ Some Work.Check →
         ChecksLog M.next result (S.view source.old) (S.view source.new) (K.view sink.old) (K.view sink.new) }
+    ensures sounded { work_of (map (λ word. word.now) words.now) ≡ Some Work.Sound →
+        (tables : Tables) → (D.view keeper.old).tables ≡ Some tables →
+        WritesText result (text_of_flaws (found M.next tables)) (K.view sink.old) (K.view sink.new) }
+    ensures listed { (candidate : Candidate) →
+        work_of (map (λ word. word.now) words.now) ≡ Some (Work.Values candidate) →
+        WritesText result (text_of_values (stuck_below (M.next candidate.key) candidate.start candidate.limit 1000))
+        (K.view sink.old) (K.view sink.new) }
 {
     match work_in(words) {
         Some(Work::Lines(mode)) => {
@@ -158,6 +184,8 @@ pub fn run<M: Mixer, S: Source, K: Sink, D: Keeper, F: Flash>(
         Some(Work::Sheets) => run_sheets::<M, S, K, D, F>(alloc, source, sink, keeper, flash),
         Some(Work::Advise(behind)) => run_advice::<K, D>(alloc, &behind, sink, keeper),
         Some(Work::Check) => run_check::<M, S, K, D, F>(alloc, source, sink, keeper, flash),
+        Some(Work::Sound) => run_sound::<M, K, D>(alloc, sink, keeper),
+        Some(Work::Values(candidate)) => run_values::<M, K>(alloc, &candidate, sink),
         None => Status::Usage,
     }
 }

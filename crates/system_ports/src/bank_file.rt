@@ -6,8 +6,9 @@ ghost use Rattle.system_ports.specs.Folders.{folder_of};
 use crate::bytes::{bank_start, go_to, word_at, word_start, write_erased, write_whole, write_word};
 use crate::settling::settle;
 use paygo_ports::FlashFault;
-use std::fs::{OpenFile, OpenOptions};
+use std::fs::{OpenFile, OpenOptions, Permissions};
 use std::io::{ErrorKind, Write};
+use std::os::unix::fs::{OpenOptionsExt, PermissionsExt};
 use std::rt::Files;
 use std::{fs, io, str};
 
@@ -87,13 +88,26 @@ fn sync_folder<R: Files>(rt: &R, path: &str) -> io::Result<()> {
     fs::open(rt, folder(path))?.sync_all()
 }
 
+// Makes an empty file at this path, also out of what a power cut left there. Its owner alone may read and write it, since
+// it is going to hold a device's key; where a file has no such modes, it is made without one.
+fn make_own<R: Files>(rt: &R, path: &str) -> io::Result<R::File> {
+    let file = OpenOptions::new()
+        .write(true)
+        .create(true)
+        .truncate(true)
+        .mode(0o600)
+        .open(rt, path)?;
+    let _ = file.set_permissions(Permissions::from_mode(0o600));
+    Ok(file)
+}
+
 // Makes a file of so many bytes with all bits 1, whole or not at all.
 fn make_file<R: Files>(rt: &R, path: &str, bytes: usize) -> io::Result<()>
     requires { bytes ≤ 65536 }
 {
     let mut buf = [0; LONGEST];
     let beside = new_path(path, &mut buf)?;
-    let mut file = fs::create(rt, beside)?;
+    let mut file = make_own(rt, beside)?;
     write_whole(&mut file, &[0xff; MOST_BYTES][..bytes])?;
     file.sync_all()?;
     fs::rename(rt, beside, path)?;

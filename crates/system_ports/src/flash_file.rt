@@ -11,7 +11,8 @@ use std::rt::Files;
 /// The file has 8,192 bytes: the word at the place `at` stands at byte 8 * `at`, most significant byte first. It is opened
 /// at the first call. Where nothing stands at the path, or an empty file, a flash with all words erased is made: it is
 /// written under the same path with `.new` behind it, synced, and renamed, and the folder is synced, so that a power cut
-/// never leaves a file of another length. A file of another length is a fault, and stays as it is; so is a folder or a
+/// never leaves a file of another length. It holds a device's key, so its owner alone may read and write a file that is
+/// made. A file of another length is a fault, and stays as it is; so is a folder or a
 /// device at the path, and a path that is empty or longer than 4,092 bytes while the file is to be made.
 ///
 /// A link at the path stands for the file that it leads to. Nothing is made through it: a link that leads nowhere, or to

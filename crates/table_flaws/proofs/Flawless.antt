@@ -106,7 +106,7 @@ none_unless false flaw none = cc
 unless_none : (test : Bool) (flaw : Flaw) → test ≡ true → unless test flaw ≡ []
 unless_none test flaw is = ap (λ b. unless b flaw) is
 
-both_none : {X : Type 0} (xs ys : List X) → xs ++ ys ≡ [] → (xs ≡ []) × (ys ≡ [])
+pub both_none : {X : Type 0} (xs ys : List X) → xs ++ ys ≡ [] → (xs ≡ []) × (ys ≡ [])
 both_none [] ys none = (refl, none)
 both_none (x ∷ xs) ys none = cc
 
@@ -131,11 +131,11 @@ module _ {X : Type 0} (before : X → X → Bool) (P : X → Type 0) where
     | false ↦ λ all. (all.0, all.1)
   ]) all
 
-  all_unsorted : (xs : List X) → AllByRecursion P (sorted_by before xs) → AllByRecursion P xs
+  pub all_unsorted : (xs : List X) → AllByRecursion P (sorted_by before xs) → AllByRecursion P xs
   all_unsorted [] all = tt
   all_unsorted (x ∷ xs) all = let parts = all_unput x (sorted_by before xs) all in (parts.0, all_unsorted xs parts.1)
 
-all_then : {X : Type 0} (P Q : X → Type 0) → ((x : X) → P x → Q x) → (xs : List X) → AllByRecursion P xs → AllByRecursion Q xs
+pub all_then : {X : Type 0} (P Q : X → Type 0) → ((x : X) → P x → Q x) → (xs : List X) → AllByRecursion P xs → AllByRecursion Q xs
 all_then P Q goes [] all = tt
 all_then P Q goes (x ∷ xs) all = (goes x all.0, all_then P Q goes xs all.1)
 
@@ -150,7 +150,7 @@ one_of : {X : Type 0} (a b : X) → Some a ≡ Some b → a ≡ b
 one_of a b is = cc
 
 -- what holds of all elements holds of the one that is found
-of_found : {X : Type 0} (P : X → Type 0) (p : X → Bool) (xs : List X) (x : X) → AllByRecursion P xs → find p xs ≡ Some x → P x
+pub of_found : {X : Type 0} (P : X → Type 0) (p : X → Bool) (xs : List X) (x : X) → AllByRecursion P xs → find p xs ≡ Some x → P x
 of_found P p [] x all is = cc
 of_found P p (y ∷ ys) x all is = (elim (p y) as (λ b. cond b (Some y) (find p ys) ≡ Some x → P x) [
   | true ↦ λ is. subst (λ (z : _). P z) (one_of y x is) all.0

@@ -1,2 +1,4 @@
+pub mod Counted
 pub mod Flawless
+pub mod Twinned
 pub mod Walking

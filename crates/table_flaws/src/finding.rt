@@ -113,6 +113,26 @@ fn push_changes(row: &Row, changes: &[PriceChange], flaws: &mut Vec<Flaw>) -> Re
     Ok(())
 }
 
+// Adds what is wrong with a row that has these orders, the newest first, and these changes of its price.
+pub(crate) fn push_flaws<M: Mixer>(
+    alloc: Global,
+    row: &Row,
+    orders: &[Order],
+    changes: &[PriceChange],
+    flaws: &mut Vec<Flaw>,
+) -> Result<(), Memory>
+    requires row { RowIsInRange row.now }
+    requires orders { All OrderIsInRange orders.now }
+    requires changes { All ChangeIsInRange changes.now }
+    ensures { OnOk result (flaws.new.items ≡ flaws.old.items
+        ++ flaws_by (M.next row.now.key) row.now orders.now changes.now) }
+{
+    let mut tokens = tokens_for::<M>(alloc, row, orders)?;
+    let sums = push_orders(alloc, &mut tokens, row, orders, changes, flaws)?;
+    push_changes(row, changes, flaws)?;
+    push_unless(flaws, agrees(&sums, row), Flaw::Account(row.serial))
+}
+
 /// What is wrong with a row that has these orders, the newest first in the order in which they were added, and these
 /// changes of its price, by rising count. The row, the orders and the changes are in range. Nothing is wrong exactly
 /// where the row is what they come to and each token is right: see `sound_tables_have_no_flaw`.
@@ -139,10 +159,7 @@ pub fn flaws_of<M: Mixer>(
     requires changes { All ChangeIsInRange changes.now }
     ensures { IfOk result (λ flaws. flaws.items ≡ flaws_by (M.next row.now.key) row.now orders.now changes.now) }
 {
-    let mut tokens = tokens_for::<M>(alloc, row, orders)?;
     let mut flaws = Vec::new(alloc);
-    let sums = push_orders(alloc, &mut tokens, row, orders, changes, &mut flaws)?;
-    push_changes(row, changes, &mut flaws)?;
-    push_unless(&mut flaws, agrees(&sums, row), Flaw::Account(row.serial))?;
+    push_flaws::<M>(alloc, row, orders, changes, &mut flaws)?;
     Ok(flaws)
 }

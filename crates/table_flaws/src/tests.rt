@@ -13,6 +13,8 @@ use token_chain::{Mixer, Stride};
 
 mod flawed;
 mod flawless;
+mod lines;
+mod shops;
 
 /// What the tests see of a flaw: a letter for its kind, and the name in it.
 fn seen_in(flaw: &Flaw) -> (u8, Name) {

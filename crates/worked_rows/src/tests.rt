@@ -10,7 +10,9 @@ mod ledger;
 mod raise;
 mod retries;
 mod rows;
+mod sound;
 mod streams;
+mod values;
 
 use ledger_keeper::MemKeeper;
 use memory_ports::{MemFlash, MemSink, MemSource};

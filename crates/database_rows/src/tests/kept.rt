@@ -147,6 +147,57 @@ fn a_raise_holds_for_one_device(rt: HostRuntime) {
     raises(&rt, rt.alloc(), &mut SqliteKeeper::in_memory(&rt));
 }
 
+// A skip lifts the last count of one device, and is refused of no row and of a count that isn't greater.
+fn skips(rt: &impl Abort, alloc: Global, keeper: &mut SqliteKeeper<'_>) {
+    let first = sold(rt, b"A1", Form::Nine, LAST);
+    let second = sold(rt, b"B2", Form::Nine, LAST);
+    assert!(rt; add_device(rt, alloc, keeper, &first).is_ok());
+    assert!(rt; add_device(rt, alloc, keeper, &second).is_ok());
+    assert!(rt; failed(keeper.skip(alloc, &name(rt, b"C3"), 5)), "no row");
+    assert!(rt; keeper.skip(alloc, &second.serial, 5).is_ok());
+    assert!(rt;
+        failed(keeper.skip(alloc, &second.serial, 5)),
+        "the same count"
+    );
+    assert!(rt;
+        failed(keeper.skip(alloc, &second.serial, 4)),
+        "a lower count"
+    );
+    let lifted = later(&second, 5, 0, 0, false);
+    has_row(rt, alloc, keeper, &first);
+    has_row(rt, alloc, keeper, &lifted);
+    has_rows(rt, alloc, keeper, &[first, lifted]);
+}
+
+#[test]
+fn a_skip_holds_for_one_device(rt: HostRuntime) {
+    skips(&rt, rt.alloc(), &mut SqliteKeeper::in_memory(&rt));
+}
+
+// Orders by count, and as they were added, which is another order.
+fn two_ways(rt: &impl Abort, alloc: Global, keeper: &mut SqliteKeeper<'_>) {
+    let plain = sold(rt, b"A1", Form::Nine, LAST);
+    assert!(rt; add_device(rt, alloc, keeper, &plain).is_ok());
+    let rows = [
+        later(&plain, 2, 350, 10, false),
+        later(&plain, 6, 700, 20, false),
+        later(&plain, 4, 1050, 30, false),
+    ];
+    let first = order(rt, b"z1", &rows[0], Ask::Pay(350), Kind::Add, 7);
+    let second = order(rt, b"a1", &rows[1], Ask::Pay(351), Kind::Add, 8);
+    let third = order(rt, b"k1", &rows[2], Ask::Pay(352), Kind::Add, 9);
+    assert!(rt; add_order(rt, alloc, keeper, &first, &rows[0]).is_ok());
+    assert!(rt; add_order(rt, alloc, keeper, &second, &rows[1]).is_ok());
+    assert!(rt; add_order(rt, alloc, keeper, &third, &rows[2]).is_ok());
+    has_orders(rt, alloc, keeper, &[first, third, second]);
+    has_orders_back(rt, alloc, keeper, &[third, second, first]);
+}
+
+#[test]
+fn orders_stand_as_they_were_added(rt: HostRuntime) {
+    two_ways(&rt, rt.alloc(), &mut SqliteKeeper::in_memory(&rt));
+}
+
 // Two changes of a price, by rising count, and one more from a count that has one, which is refused.
 fn two_prices(rt: &impl Abort, alloc: Global, keeper: &mut SqliteKeeper<'_>) {
     let sold = sold(rt, b"A1", Form::Nine, LAST);

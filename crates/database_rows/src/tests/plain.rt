@@ -63,7 +63,7 @@ fn filled(rt: &impl Abort) -> (Row, [Order; 4]) {
 }
 
 // Runs these statements over a file.
-fn change(rt: &impl Abort, host: &HostRuntime, path: &str, statements: &str) {
+pub(super) fn change(rt: &impl Abort, host: &HostRuntime, path: &str, statements: &str) {
     let mut conn = Connection::open(host, path).expect(rt, "the file");
     assert!(rt; conn.execute_batch(statements).is_ok());
     assert!(rt; conn.close().is_ok());

@@ -73,11 +73,13 @@ fn seen<'a>(command: &'a Command) -> (&'static [u8], &'a [u8], &'a [u8], u64, u6
             from,
             price,
         } => (b"price", b"", serial.bytes(), u64::from(*from), *price),
+        Command::Quote { serial, amount } => (b"quote", b"", serial.bytes(), *amount, 0),
+        Command::Skip { serial, to } => (b"skip", b"", serial.bytes(), u64::from(*to), 0),
     }
 }
 
 /// A line of each command but the first, its word, its id, its serial and its numbers.
-const COMMANDS: [(&[u8], &[u8], &[u8], &[u8], u64, u64); 8] = [
+const COMMANDS: [(&[u8], &[u8], &[u8], &[u8], u64, u64); 10] = [
     (
         br#"{"do":"pay","id":"p1","serial":"A1","amount":350}"#,
         b"pay",
@@ -127,6 +129,22 @@ const COMMANDS: [(&[u8], &[u8], &[u8], &[u8], u64, u64); 8] = [
         b"A1",
         2,
         60,
+    ),
+    (
+        br#"{"do":"quote","serial":"A1","amount":350}"#,
+        b"quote",
+        b"",
+        b"A1",
+        350,
+        0,
+    ),
+    (
+        br#"{"do":"skip","serial":"A1","to":16383}"#,
+        b"skip",
+        b"",
+        b"A1",
+        16383,
+        0,
     ),
 ];
 

@@ -12,7 +12,7 @@ fn refuse(rt: &impl Abort, alloc: Global, line: &[u8], want: TextFault) {
 }
 
 /// Each line breaks this rule alone, or this rule as the least of two.
-const BROKEN: [(u8, &[u8]); 34] = [
+const BROKEN: [(u8, &[u8]); 38] = [
     (1, br#"{}"#),
     (1, br#"{"do":"fly"}"#),
     (1, br#"{"do":7,"serial":"A1"}"#),
@@ -95,6 +95,10 @@ const BROKEN: [(u8, &[u8]); 34] = [
         12,
         br#"{"do":"price","serial":"A1","from":16384,"price":60}"#,
     ),
+    (2, br#"{"do":"skip","to":1}"#),
+    (10, br#"{"do":"quote","serial":"A1","amount":0}"#),
+    (13, br#"{"do":"skip","serial":"A1"}"#),
+    (13, br#"{"do":"skip","serial":"A1","to":16384}"#),
 ];
 
 #[test]

@@ -1,6 +1,6 @@
 // The lines of answers, letter by letter.
 use super::*;
-use ledger_spec::{Ask, Kind, Name, Order, PriceChange, Row};
+use ledger_spec::{Ask, Kind, Name, Order, PriceChange, Quote, Row};
 use paygo_spec::Form;
 use std::process::Abort;
 
@@ -115,6 +115,37 @@ fn prices(rt: HostRuntime) {
         &rt,
         &Answer::Stale { last: 6 },
         br#"{"no":12,"why":"stale","last":6}"#,
+    );
+}
+
+// A quote for the device A1.
+fn quote(rt: &impl Abort, kind: Kind, count: u16, value: u16, rest: u64, near: bool) -> Quote {
+    Quote {
+        serial: name(rt, b"A1"),
+        kind,
+        count,
+        value,
+        rest,
+        near,
+    }
+}
+
+#[test]
+fn quotes(rt: HostRuntime) {
+    write_is(
+        &rt,
+        &Answer::Quote(quote(&rt, Kind::Add, 16_383, 995, 49, true)),
+        br#"{"ok":"quote","serial":"A1","kind":"add","count":16383,"value":995,"rest":49,"near":true}"#,
+    );
+    write_is(
+        &rt,
+        &Answer::Quote(quote(&rt, Kind::Disable, 1, 998, 0, false)),
+        br#"{"ok":"quote","serial":"A1","kind":"disable","count":1,"value":998,"rest":0,"near":false}"#,
+    );
+    write_is(
+        &rt,
+        &Answer::Beyond { limit: 4095 },
+        br#"{"no":13,"why":"beyond","limit":4095}"#,
     );
 }
 

@@ -45,6 +45,30 @@ fn payments_and_their_refusals(rt: HostRuntime) {
     );
 }
 
+#[test]
+fn quotes_and_skipped_counts(rt: HostRuntime) {
+    let a = rt.alloc();
+    let k = &mut MemKeeper::new(a);
+    let t = &mut Tables::<Stride<7>>::new(a).expect(&rt, "memory");
+    told!(&rt, a, k, t;
+        enrol(&rt, b"A1", 50, 18_000) => Seen::Row(0, 0, 0, false),
+        quote(&rt, b"A1", 350) => Seen::Quote(Kind::Add, 2, 7, 0, true),
+        pay(&rt, b"p1", b"A1", 350) => Seen::Order(Kind::Add, 2, 7, 123_470_796),
+        skip(&rt, b"A1", 10) => Seen::Row(350, 0, 10, false),
+        skip(&rt, b"A1", 5) => Seen::Row(350, 0, 10, false),
+        quote(&rt, b"A1", 365) => Seen::Quote(Kind::Add, 12, 7, 15, true),
+        pay(&rt, b"p2", b"A1", 365) => Seen::Order(Kind::Add, 12, 7, 123_540_796),
+        quote(&rt, b"A1", 40) => Seen::Quote(Kind::Add, 14, 1, 5, true),
+        quote(&rt, b"A1", 30) => Seen::Small(45, 50),
+        quote(&rt, b"A1", 17_300) => Seen::Quote(Kind::Disable, 13, 998, 0, true),
+        skip(&rt, b"A1", 4096) => Seen::Beyond(4095),
+        skip(&rt, b"A1", 4095) => Seen::Row(715, 15, 4095, false),
+        quote(&rt, b"A1", 350) => Seen::NoCount(4095),
+        quote(&rt, b"B2", 350) => Seen::NoDevice,
+        skip(&rt, b"B2", 3) => Seen::NoDevice,
+    );
+}
+
 // Whether this is the first order of the device A1, whole, with the form of the device.
 fn is_first_order(answer: Result<Answer, LedgerFault>) -> bool {
     match answer {

@@ -59,7 +59,7 @@ fn ordered(rt: &impl Abort, id: &[u8], row: &Row, token: u32) -> Order
 }
 
 /// Gives the keeper a device with such an order, in five calls.
-fn hold(
+pub(super) fn hold(
     rt: &impl Abort,
     alloc: Global,
     keeper: &mut MemKeeper,

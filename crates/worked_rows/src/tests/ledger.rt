@@ -22,7 +22,7 @@ pub(super) const ORDER: &str =
 "#;
 
 /// Lines of a new shop, and what they are answered.
-const ROWS: [(&str, &str); 9] = [
+const ROWS: [(&str, &str); 10] = [
     // a payment, the same again, and the same id for another amount
     (
         r#"{"do":"enroll","serial":"A1","key":"00000000000000000000000000000000","start":123456789,"divider":1,"form":9,"price":50,"total":18000}
@@ -34,6 +34,44 @@ const ROWS: [(&str, &str); 9] = [
 {"ok":"order","id":"p1","serial":"A1","kind":"add","asked":350,"count":2,"value":7,"token":"123470796"}
 {"ok":"order","id":"p1","serial":"A1","kind":"add","asked":350,"count":2,"value":7,"token":"123470796"}
 {"no":2,"why":"id used","id":"p1","serial":"A1","kind":"add","asked":350,"count":2,"value":7,"token":"123470796"}
+"#,
+    ),
+    // quotes: of a device that isn't there, of a payment that comes true, of too little, of the whole; and counts that are
+    // skipped: none lowered, none beyond the limit, a closed row
+    (
+        r#"{"do":"quote","serial":"A1","amount":350}
+{"do":"enroll","serial":"A1","key":"00000000000000000000000000000000","start":123456789,"divider":1,"form":9,"price":50,"total":18000}
+{"do":"quote","serial":"A1","amount":370}
+{"do":"pay","id":"p1","serial":"A1","amount":370}
+{"do":"quote","serial":"A1","amount":29}
+{"do":"quote","serial":"A1","amount":0}
+{"do":"skip","serial":"A1","to":1}
+{"do":"skip","serial":"A1","to":300}
+{"do":"skip","serial":"A1","to":300}
+{"do":"skip","serial":"A1","to":4096}
+{"do":"skip","serial":"A1","to":16384}
+{"do":"skip","serial":"B2","to":3}
+{"do":"quote","serial":"A1","amount":17630}
+{"do":"pay","id":"p2","serial":"A1","amount":17630}
+{"do":"quote","serial":"A1","amount":1}
+{"do":"skip","serial":"A1","to":400}
+"#,
+        r#"{"no":1,"why":"no device"}
+{"ok":"row","serial":"A1","start":123456789,"divider":1,"form":9,"price":50,"total":18000,"paid":0,"rest":0,"last":0,"closed":false}
+{"ok":"quote","serial":"A1","kind":"add","count":2,"value":7,"rest":20,"near":true}
+{"ok":"order","id":"p1","serial":"A1","kind":"add","asked":370,"count":2,"value":7,"token":"123470796"}
+{"no":5,"why":"small","have":49,"price":50}
+{"no":10,"why":"shape","rule":10}
+{"ok":"row","serial":"A1","start":123456789,"divider":1,"form":9,"price":50,"total":18000,"paid":370,"rest":20,"last":2,"closed":false}
+{"ok":"row","serial":"A1","start":123456789,"divider":1,"form":9,"price":50,"total":18000,"paid":370,"rest":20,"last":300,"closed":false}
+{"ok":"row","serial":"A1","start":123456789,"divider":1,"form":9,"price":50,"total":18000,"paid":370,"rest":20,"last":300,"closed":false}
+{"no":13,"why":"beyond","limit":4095}
+{"no":10,"why":"shape","rule":13}
+{"no":1,"why":"no device"}
+{"ok":"quote","serial":"A1","kind":"disable","count":301,"value":998,"rest":0,"near":true}
+{"ok":"order","id":"p2","serial":"A1","kind":"disable","asked":17630,"count":301,"value":998,"token":"125563787"}
+{"no":4,"why":"closed","paid":18000}
+{"ok":"row","serial":"A1","start":123456789,"divider":1,"form":9,"price":50,"total":18000,"paid":18000,"rest":0,"last":400,"closed":true}
 "#,
     ),
     // a second device: too little, too much, the whole, and a time set again

@@ -56,3 +56,25 @@ returns-in-Some-Advise-clause-complete g c =
 
 pub returns-in-Some-Advise-clause-causes : goal.returns-in-Some-Advise-clause-causes
 returns-in-Some-Advise-clause-causes g c = c.run_advice.ensures.causes (g.S.Source.view c.args.source.now) (g.F.Flash.view c.args.flash.now)
+
+pub returns-in-Some-Sound-clause-complete : goal.returns-in-Some-Sound-clause-complete
+returns-in-Some-Sound-clause-complete g c =
+    let source = g.S.Source.view c.args.source.now in
+    let flash = g.F.Flash.view c.args.flash.now in
+    complete c.run_sound.result (outside source (g.K.Sink.view c.args.sink.now) (g.D.Keeper.view c.args.keeper.now) flash) (outside source (g.K.Sink.view c.run_sound.new.sink) (g.D.Keeper.view c.run_sound.new.keeper) flash)
+    (c.run_sound.ensures.causes source flash)
+
+pub returns-in-Some-Sound-clause-causes : goal.returns-in-Some-Sound-clause-causes
+returns-in-Some-Sound-clause-causes g c = c.run_sound.ensures.causes (g.S.Source.view c.args.source.now) (g.F.Flash.view c.args.flash.now)
+
+pub returns-in-Some-Values-clause-complete : goal.returns-in-Some-Values-clause-complete
+returns-in-Some-Values-clause-complete g c =
+    let source = g.S.Source.view c.args.source.now in
+    let keeper = g.D.Keeper.view c.args.keeper.now in
+    let flash = g.F.Flash.view c.args.flash.now in
+    complete c.run_values.result (outside source (g.K.Sink.view c.args.sink.now) keeper flash) (outside source (g.K.Sink.view c.run_values.new.sink) keeper flash)
+    (c.run_values.ensures.causes source keeper flash)
+
+pub returns-in-Some-Values-clause-causes : goal.returns-in-Some-Values-clause-causes
+returns-in-Some-Values-clause-causes g c =
+    c.run_values.ensures.causes (g.S.Source.view c.args.source.now) (g.D.Keeper.view c.args.keeper.now) (g.F.Flash.view c.args.flash.now)
