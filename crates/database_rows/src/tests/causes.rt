@@ -151,12 +151,12 @@ fn a_table_of_another_form_and_an_order_without_a_row(rt: HostRuntime) {
     change(
         &rt,
         &rt,
-        "loose.db",
+        "orphan.db",
         "CREATE TABLE token_order (id TEXT PRIMARY KEY NOT NULL, serial TEXT NOT NULL, ask INTEGER NOT NULL,
   asked INTEGER NOT NULL, kind INTEGER NOT NULL, count INTEGER NOT NULL, value INTEGER NOT NULL, token INTEGER NOT NULL);
 INSERT INTO token_order VALUES ('p1', 'A1', 0, 350, 0, 2, 7, 842101796)",
     );
-    let keeper = &mut keeper_at(&rt, &rt, "loose.db");
+    let keeper = &mut keeper_at(&rt, &rt, "orphan.db");
     assert!(rt; keeper.order(alloc, &name(&rt, b"p1")).is_err());
     says(&rt, alloc, keeper, "no row has the device of order p1");
 }
