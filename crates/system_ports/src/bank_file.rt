@@ -4,6 +4,7 @@ ghost use Rattle.paygo_spec.specs.Faults.{Counted};
 ghost use Rattle.system_ports.specs.Folders.{folder_of};
 
 use crate::bytes::{bank_start, go_to, word_at, word_start, write_erased, write_whole, write_word};
+use crate::locks::Locks;
 use crate::settling::settle;
 use paygo_ports::FlashFault;
 use std::fs::{OpenFile, OpenOptions, Permissions};
@@ -27,7 +28,7 @@ const NEW: &str = ".new";
 // Banks of 512 words in the file at a path: the word at the place `at` of them all stands at byte 8 * `at`, most
 // significant byte first. How it is opened, made and written is told at `FlashFile`.
 #[derive(Drop)]
-pub(crate) struct BankFile<'a, R: Files> {
+pub(crate) struct BankFile<'a, R: Locks> {
     rt: &'a R,
     path: String,
     pub(crate) banks: u16,
@@ -114,21 +115,22 @@ fn make_file<R: Files>(rt: &R, path: &str, bytes: usize) -> io::Result<()>
     sync_folder(rt, path)
 }
 
-// Opens the file of so many bytes, and makes it first where it is absent or empty.
-fn open_file<R: Files>(rt: &R, path: &str, bytes: usize) -> io::Result<R::File>
+// Opens the file of so many bytes, and makes it first where it is absent or empty. Who has it open holds it alone.
+fn open_file<R: Locks>(rt: &R, path: &str, bytes: usize) -> io::Result<R::File>
     requires { bytes ≤ 65536 }
 {
     if is_unmade(rt, path)? {
         make_file(rt, path, bytes)?;
     }
     let file = OpenOptions::new().read(true).write(true).open(rt, path)?;
+    rt.claim(&file)?;
     if file.metadata()?.len() != bytes as u64 {
         return Err(io::Error::from(ErrorKind::InvalidData));
     }
     Ok(file)
 }
 
-impl<'a, R: Files> BankFile<'a, R> {
+impl<'a, R: Locks> BankFile<'a, R> {
     // So many banks, at most 16, in the file at this path. They are up, and nothing is opened yet.
     pub(crate) fn at(rt: &'a R, path: String, banks: u16) -> BankFile<'a, R>
         requires { banks ≤ 16 }

@@ -3,8 +3,8 @@ ghost use Rattle.std.specs.Prelude.{◌≡◌, true, false, None, IfOk, OnOk, On
 ghost use Rattle.paygo_spec.specs.Flash.{FlashView, AreWords, Passes, Fails, Becomes, Stay, TornProgram, TornErase, erased_word, erased_bank, same_words};
 
 use crate::bank_file::BankFile;
+use crate::locks::Locks;
 use paygo_ports::{Flash, FlashFault};
-use std::rt::Files;
 
 /// A flash in the file at a path. It tells no words and no due.
 ///
@@ -19,14 +19,14 @@ use std::rt::Files;
 /// an empty file, is a fault, and stays. So a flash on a disk that isn't mounted is never taken for a new one.
 ///
 /// `program` and `erase` each wait until the disk has what was written. After a fault the file is closed; `power_up` opens
-/// it again.
+/// it again. While the file is open it is claimed by [`Locks`]: a file that another run has claimed is a fault, and stays.
 #[derive(Drop)]
-pub struct FlashFile<'a, R: Files> {
+pub struct FlashFile<'a, R: Locks> {
     file: BankFile<'a, R>,
     ghost banks: { file.banks ≡ 2 },
 }
 
-impl<'a, R: Files> FlashFile<'a, R> {
+impl<'a, R: Locks> FlashFile<'a, R> {
     /// The flash in the file at this path. It is up, and nothing is opened yet.
     pub fn at(rt: &'a R, path: String) -> FlashFile<'a, R>
         ensures { ⟦<FlashFile<'a, R> as Flash>⟧.view result ≡
@@ -38,7 +38,7 @@ impl<'a, R: Files> FlashFile<'a, R> {
     }
 }
 
-impl<'a, R: Files> Flash for FlashFile<'a, R> {
+impl<'a, R: Locks> Flash for FlashFile<'a, R> {
     ghost view = { λ f. record { words = None; up = f.file.up; due = None; faults = f.file.faults } };
 
     ghost whole = { λ f. tt };

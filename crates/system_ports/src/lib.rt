@@ -5,6 +5,7 @@
 mod bank_file;
 mod bytes;
 mod flash_file;
+mod locks;
 mod media_file;
 mod record;
 mod settling;
@@ -12,6 +13,7 @@ mod stdin_source;
 mod stdout_sink;
 
 pub use flash_file::FlashFile;
+pub use locks::Locks;
 pub use media_file::MediaFile;
 pub use stdin_source::StdinSource;
 pub use stdout_sink::StdoutSink;

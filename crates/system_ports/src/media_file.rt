@@ -4,9 +4,9 @@ ghost use Rattle.media_ports.specs.Media.{MediaView, IsMedia, MediaPasses, Media
 ghost use Rattle.paygo_spec.specs.Flash.{Becomes, Stay, TornProgram, TornErase, erased_word, erased_bank, same_words};
 
 use crate::bank_file::BankFile;
+use crate::locks::Locks;
 use media_ports::Media;
 use paygo_ports::{BANK, FlashFault};
-use std::rt::Files;
 
 /// A flash of two to sixteen banks in the file at a path. It tells no words and no numbers of erases.
 ///
@@ -14,15 +14,16 @@ use std::rt::Files;
 /// byte 4,096 * bank + 8 * place, most significant byte first. All else is as for [`FlashFile`](crate::FlashFile): the
 /// file is opened at the first call, made whole or not at all where there is none, and refused where it has another
 /// length; a link stands for the file that it leads to, and nothing is made through it; and `program` and `erase` each
-/// wait until the disk has what was written. After a fault the file is closed; `power_up` opens it again.
+/// wait until the disk has what was written. After a fault the file is closed; `power_up` opens it again. A file that
+/// another run has claimed is a fault.
 #[derive(Drop)]
-pub struct MediaFile<'a, R: Files> {
+pub struct MediaFile<'a, R: Locks> {
     file: BankFile<'a, R>,
     ghost least: { 2 ≤ file.banks },
     ghost most: { file.banks ≤ 16 },
 }
 
-impl<'a, R: Files> MediaFile<'a, R> {
+impl<'a, R: Locks> MediaFile<'a, R> {
     /// The media of so many banks, from 2 to 16, in the file at this path. It is up, and nothing is opened yet.
     pub fn at(rt: &'a R, path: String, banks: u16) -> MediaFile<'a, R>
         requires least { 2 ≤ banks }
@@ -36,7 +37,7 @@ impl<'a, R: Files> MediaFile<'a, R> {
     }
 }
 
-impl<'a, R: Files> Media for MediaFile<'a, R> {
+impl<'a, R: Locks> Media for MediaFile<'a, R> {
     ghost view = { λ f. record {
       banks = f.file.banks;
       words = None;

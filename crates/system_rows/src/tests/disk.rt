@@ -7,6 +7,7 @@ use std::cell::Cell;
 use std::fs::{Files, Metadata, OpenFile, OpenOptions};
 use std::io;
 use std::io::{ErrorKind, Read, Seek, SeekFrom, Write};
+use system_ports::Locks;
 
 // The path of the file where a test names no other one.
 pub(super) const PATH: &str = "shed/flash";
@@ -105,6 +106,7 @@ pub(super) struct Disk {
     calls: Cell<u64>,
     fails: Cell<u64>,
     most: Cell<usize>,
+    held: Cell<bool>,
     names: Names,
     stands: Stands,
 }
@@ -142,6 +144,7 @@ impl Disk {
             calls: Cell::new(0),
             fails: Cell::new(0),
             most: Cell::new(usize::MAX),
+            held: Cell::new(false),
             names,
             stands: Stands::File,
         }
@@ -183,8 +186,14 @@ impl Disk {
         self.most.set(n);
     }
 
+    // Whether another run holds the file from now on.
+    pub(super) fn hold(&self, held: bool) {
+        self.held.set(held);
+    }
+
     // The letters of the calls since this was last asked: (s)ymlink_metadata of the path, (m)etadata of what it leads to,
-    // (n)ew file, (o)pen, (f)older opened, (l)ength of the open file, see(k), (g)et, (w)rite, sync_(a)ll, sync_(d)ata, (r)ename.
+    // (n)ew file, (o)pen, (f)older opened, (c)laim of the open file, (l)ength of it, see(k), (g)et, (w)rite, sync_(a)ll,
+    // sync_(d)ata, (r)ename.
     pub(super) fn notes_were(&self, want: &[u8]) -> bool {
         let notes = self.notes.get();
         self.notes.set(no_notes());
@@ -439,5 +448,15 @@ impl<'d> Files for System<'d> {
 
     fn remove_dir_all<B: Allocator>(&self, _alloc: B, _path: &str) -> io::Result<()> {
         unused()
+    }
+}
+
+impl Locks for System<'_> {
+    fn claim(&self, file: &Self::File) -> io::Result<()> {
+        file.disk.note(b'c')?;
+        if file.disk.held.get() {
+            return Err(io::Error::from(ErrorKind::WouldBlock));
+        }
+        Ok(())
     }
 }

@@ -143,9 +143,9 @@ fn runs(
 #[test]
 fn a_flash_file_does_as_memory_does(rt: HostRuntime) -> Result<(), AllocError> {
     for (calls, start, most, count) in [
-        (LIFE.as_slice(), None, WHOLE, 32),
-        (LIFE.as_slice(), Some(Image::empty()), 3000, 36),
-        (HOUR.as_slice(), Some(Image::of(0xff, WHOLE)), 3, 17),
+        (LIFE.as_slice(), None, WHOLE, 33),
+        (LIFE.as_slice(), Some(Image::empty()), 3000, 37),
+        (HOUR.as_slice(), Some(Image::of(0xff, WHOLE)), 3, 18),
     ] {
         for fails in 0..=count {
             let disk = Disk::new(start);
@@ -172,7 +172,7 @@ fn a_flash_file_asks_the_system_in_order(rt: HostRuntime) -> Result<(), AllocErr
     let mut flash = FlashFile::at(&system, String::from_str(rt.alloc(), PATH)?);
     assert!(rt; disk.notes_were(b""));
     assert_eq!(rt; flash.read(5), Ok(u64::MAX));
-    assert!(rt; disk.notes_were(b"snwarfaolkg"), "made, opened and read");
+    assert!(rt; disk.notes_were(b"snwarfaoclkg"), "made, opened and read");
     assert_eq!(rt; flash.program(3, WORD), Ok(()));
     assert!(rt; disk.notes_were(b"kwd"));
     assert_eq!(rt; flash.read(3), Ok(WORD));
@@ -216,13 +216,13 @@ fn a_flash_file_syncs_its_folder(rt: HostRuntime) -> Result<(), AllocError> {
         let system = System(&disk);
         let mut flash = FlashFile::at(&system, String::from_str(rt.alloc(), names.file)?);
         assert_eq!(rt; flash.power_up(), Ok(()), "{}", names.file);
-        assert!(rt; disk.notes_were(b"snwarfaol"), "{}", names.file);
+        assert!(rt; disk.notes_were(b"snwarfaocl"), "{}", names.file);
         assert_eq!(rt; disk.synced().bytes().len(), WHOLE);
     }
     Ok(())
 }
 
-// After a fault the file is closed, and the next `power_up` opens it anew: (s), (o) and (l) are asked for again.
+// After a fault the file is closed, and the next `power_up` opens it anew: (s), (o), (c) and (l) are asked for again.
 #[test]
 fn a_fault_closes_the_file(rt: HostRuntime) -> Result<(), AllocError> {
     for (call, fails, asked) in [
@@ -239,13 +239,31 @@ fn a_fault_closes_the_file(rt: HostRuntime) -> Result<(), AllocError> {
         let system = System(&disk);
         let mut flash = FlashFile::at(&system, String::from_str(rt.alloc(), PATH)?);
         assert_eq!(rt; flash.power_up(), Ok(()));
-        assert!(rt; disk.notes_were(b"sol"), "opened");
+        assert!(rt; disk.notes_were(b"socl"), "opened");
         disk.fail(fails);
         assert_eq!(rt; ask_file(&mut flash, call), Err(FlashFault), "call {fails}");
         assert!(rt; disk.notes_were(asked), "call {fails}");
         assert_eq!(rt; flash.power_up(), Ok(()), "call {fails}");
-        assert!(rt; disk.notes_were(b"sol"), "opened anew after call {fails}");
+        assert!(rt; disk.notes_were(b"socl"), "opened anew after call {fails}");
     }
+    Ok(())
+}
+
+// A file that another run holds is a fault and stays as it is; once it is free, `power_up` opens it.
+#[test]
+fn a_held_file_is_refused(rt: HostRuntime) -> Result<(), AllocError> {
+    let disk = Disk::new(Some(Image::of(0x5a, WHOLE)));
+    let system = System(&disk);
+    let mut flash = FlashFile::at(&system, String::from_str(rt.alloc(), PATH)?);
+    disk.hold(true);
+    assert_eq!(rt; flash.power_up(), Err(FlashFault));
+    assert!(rt; disk.notes_were(b"soc"), "refused at the claim");
+    assert_eq!(rt; flash.program(3, WORD), Err(FlashFault));
+    assert!(rt; disk.notes_were(b""));
+    assert!(rt; disk.written().bytes().iter().all(|byte| *byte == 0x5a));
+    disk.hold(false);
+    assert_eq!(rt; flash.power_up(), Ok(()));
+    assert_eq!(rt; flash.read(3), Ok(0x5a5a_5a5a_5a5a_5a5a));
     Ok(())
 }
 

@@ -102,7 +102,7 @@ fn a_media_file_asks_the_system_in_order(rt: HostRuntime) -> Result<(), AllocErr
     let mut media = MediaFile::at(&system, String::from_str(rt.alloc(), PATH)?, 3);
     assert!(rt; disk.notes_were(b""));
     assert_eq!(rt; ask(&mut media, Call::Read(2, 5)), Ok(u64::MAX));
-    assert!(rt; disk.notes_were(b"snwarfaolkg"), "made, opened and read");
+    assert!(rt; disk.notes_were(b"snwarfaoclkg"), "made, opened and read");
     assert_eq!(rt; disk.synced().bytes().len(), WHOLE);
     assert_eq!(rt; ask(&mut media, Call::Program(2, 511, WORD)), Ok(0));
     assert!(rt; disk.notes_were(b"kwd"));
