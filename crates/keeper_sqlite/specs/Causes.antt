@@ -1,6 +1,6 @@
 -- What an error of the database comes to.
 use Rattle.sqlite.specs.declared.error.Error.{Error}
-use Rattle.sqlite.specs.declared.error.Error.TheVariants.{SqliteFailure}
+use Rattle.sqlite.specs.declared.error.Error.TheVariants.{SqliteFailure, QueryReturnedNoRows}
 use Rattle.sqlite.specs.declared.error.ErrorCode.TheVariants as code
 use Rattle.keeper_sqlite.specs.declared.cause.Cause.{Cause}
 use Rattle.keeper_sqlite.specs.declared.cause.Cause.TheVariants as cause
@@ -16,6 +16,7 @@ cause_of (SqliteFailure code.DiskFull) = cause.Full
 cause_of (SqliteFailure code.SystemIoFailure) = cause.DiskFailed
 cause_of (SqliteFailure code.Closed) = cause.DiskFailed
 cause_of (SqliteFailure code.DatabaseCorrupt) = cause.Damaged
+cause_of QueryReturnedNoRows = cause.Unwritten
 cause_of e = cause.Refused e
 
 -- What a call comes to that met it: want of memory is no fault of the database.

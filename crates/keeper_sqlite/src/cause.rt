@@ -86,6 +86,7 @@ fn to_cause(error: Error) -> Cause
         Error::SqliteFailure(ErrorCode::SystemIoFailure) => Cause::DiskFailed,
         Error::SqliteFailure(ErrorCode::Closed) => Cause::DiskFailed,
         Error::SqliteFailure(ErrorCode::DatabaseCorrupt) => Cause::Damaged,
+        Error::QueryReturnedNoRows => Cause::Unwritten,
         _ => Cause::Refused(error),
     }
 }

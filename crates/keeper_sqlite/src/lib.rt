@@ -7,7 +7,6 @@ mod copying;
 mod found;
 mod keeper;
 mod opening;
-mod statements;
 mod tables;
 mod unread;
 

@@ -1,26 +1,32 @@
 // The tables over any store: each call of a keeper as statements.
-ghost use Rattle.std.specs.Prelude.{◌≡◌, ◌↔◌, IsTrue, IfOk, IfSome, All, Ok, Err};
-ghost use Rattle.ledger_spec.specs.Sorted.{rises, order_before, row_before};
-ghost use Rattle.ledger_spec.specs.Tables.{RowIsInRange, OrderIsInRange, ChangeIsInRange, change_before};
+ghost use Rattle.std.specs.Prelude.{◌≡◌, ◌↔◌, None, IsTrue, IsSome, IfOk, IfSome, OnOk, OnErr, All, Ok, Err};
+ghost use Rattle.sqlite.specs.Held.{state};
+ghost use Rattle.sqlite.specs.State.{HasCleanDisk};
+ghost use Rattle.ledger_spec.specs.Sorted.{rises, order_before, row_before, orders_for, all_rows};
+ghost use Rattle.ledger_spec.specs.Keeper.{IsOrderOf};
+ghost use Rattle.ledger_spec.specs.Replay.{orders_back};
+ghost use Rattle.ledger_spec.specs.Tables.{Tables, Kept, row_of, with_row, with_order, with_raised, with_lifted, with_change, prices_for, RowIsInRange, OrderIsInRange, ChangeIsInRange, change_before};
+ghost use Rattle.shop_tables.specs.Telling.{Tells, StillTells, Stays, Wrote, WritesWhole, WritesNothing};
+ghost use Rattle.keeper_sqlite.specs.Causes.{fault_of};
 
 use crate::cause::{Cause, Fault, to_fault};
 use crate::found::{
     order_found, orders_back_found, orders_found, prices_found, row_found, rows_found,
 };
-use crate::statements::{
-    ADD_DEVICE, ADD_ORDER, ADD_PRICE, DEVICE, DEVICES, ORDER, ORDERS, ORDERS_BACK, PRICES,
-    PUT_DEVICE, RAISE, SKIP,
-};
 use ledger_spec::{Name, Order, PriceChange, Row};
 use paygo_spec::{Form, LAST};
 use shop_schema::SchemaError;
-use sqlite::{Alter, Connection, Error, ErrorCode, Transaction, params};
+use shop_tables::{find_device, find_order, find_orders, find_orders_back, find_prices, find_rows};
+use sqlite::{Alter, Connection, Error};
 use std::alloc::Global;
-use table_columns::{ask_number, asked_number, kind_number};
 
 /// The shop's tables over an open connection to any store: each call of a keeper as one statement or one transaction, and
 /// nothing is counted. What another program, or another form of the tables, may have put there is tested: what is found is
 /// what was asked for, in its order and in range.
+///
+/// Where the connection tells tables, which are the shop's own and in order, what is found is what the ledger's definitions
+/// say of them (`told`); a write that answers has made its whole change (`done`), one that fails none (`refused`), and a
+/// crash at any time leaves the tables as they were or with the whole change (`whole`).
 pub struct TablesOver<S: Alter> {
     conn: Connection<S>,
 }
@@ -61,10 +67,17 @@ impl<S: Alter> TablesOver<S> {
     /// `Caused` where the database refuses the statement, and where it finds another row, two of them, or one out of range;
     /// `Memory` where there is none.
     pub fn device(&mut self, serial: &Name) -> Result<Option<Row>, Fault>
+        ensures told { HasCleanDisk (state S.Store self.new.conn) → IfOk result (λ found. (tables : Tables) →
+            Tells (state S.Store self.old.conn) tables → Kept tables → found ≡ row_of tables serial.now) }
+        ensures answered { HasCleanDisk (state S.Store self.new.conn) → OnOk result (
+            StillTells (state S.Store self.old.conn) (state S.Store self.new.conn)) }
+        ensures refused { HasCleanDisk (state S.Store self.new.conn) → OnErr result (
+            Stays (state S.Store self.old.conn) (state S.Store self.new.conn)) }
+        ensures nothing { WritesNothing (state S.Store self.old.conn) (state S.Store self.new.conn) }
         ensures asked { IfOk result (λ found. IfSome found (λ row. row.serial ≡ serial.now)) }
         ensures in_range { IfOk result (λ found. IfSome found RowIsInRange) }
     {
-        let found = query(&mut self.conn, DEVICE, text(serial))?;
+        let found = columns(find_device(&mut self.conn, serial))?;
         row_found(found.as_slice(), serial)
     }
 
@@ -74,10 +87,17 @@ impl<S: Alter> TablesOver<S> {
     ///
     /// As for `device`. An order whose device has no row is a fault too.
     pub fn order(&mut self, id: &Name) -> Result<Option<(Order, Form)>, Fault>
+        ensures told { HasCleanDisk (state S.Store self.new.conn) → IfOk result (λ found. (tables : Tables) →
+            Tells (state S.Store self.old.conn) tables → Kept tables → IsOrderOf tables id.now found) }
+        ensures answered { HasCleanDisk (state S.Store self.new.conn) → OnOk result (
+            StillTells (state S.Store self.old.conn) (state S.Store self.new.conn)) }
+        ensures refused { HasCleanDisk (state S.Store self.new.conn) → OnErr result (
+            Stays (state S.Store self.old.conn) (state S.Store self.new.conn)) }
+        ensures nothing { WritesNothing (state S.Store self.old.conn) (state S.Store self.new.conn) }
         ensures asked { IfOk result (λ found. IfSome found (λ f. f.0.id ≡ id.now)) }
         ensures in_range { IfOk result (λ found. IfSome found (λ f. OrderIsInRange f.0)) }
     {
-        let found = query(&mut self.conn, ORDER, text(id))?;
+        let found = columns(find_order(&mut self.conn, id))?;
         order_found(found.as_slice(), id)
     }
 
@@ -88,11 +108,18 @@ impl<S: Alter> TablesOver<S> {
     /// `Caused` where the database refuses the statement, and where it finds an order of another serial or out of range, or
     /// finds them in another order; `Memory` where there is none.
     pub fn orders_of(&mut self, alloc: Global, serial: &Name) -> Result<Vec<Order>, Fault>
+        ensures told { HasCleanDisk (state S.Store self.new.conn) → IfOk result (λ found. (tables : Tables) →
+            Tells (state S.Store self.old.conn) tables → Kept tables → found.items ≡ orders_for tables serial.now) }
+        ensures answered { HasCleanDisk (state S.Store self.new.conn) → OnOk result (
+            StillTells (state S.Store self.old.conn) (state S.Store self.new.conn)) }
+        ensures refused { HasCleanDisk (state S.Store self.new.conn) → OnErr result (
+            Stays (state S.Store self.old.conn) (state S.Store self.new.conn)) }
+        ensures nothing { WritesNothing (state S.Store self.old.conn) (state S.Store self.new.conn) }
         ensures asked { IfOk result (λ list. All (λ order. order.serial ≡ serial.now) list.items) }
         ensures ordered { IfOk result (λ list. IsTrue (rises order_before list.items)) }
         ensures in_range { IfOk result (λ list. All OrderIsInRange list.items) }
     {
-        let found = query(&mut self.conn, ORDERS, text(serial))?;
+        let found = columns(find_orders(&mut self.conn, serial))?;
         orders_found(alloc, found.as_slice(), serial)
     }
 
@@ -103,10 +130,17 @@ impl<S: Alter> TablesOver<S> {
     /// `Caused` where the database refuses the statement, and where it finds an order of another serial or out of range;
     /// `Memory` where there is none.
     pub fn orders_back(&mut self, alloc: Global, serial: &Name) -> Result<Vec<Order>, Fault>
+        ensures told { HasCleanDisk (state S.Store self.new.conn) → IfOk result (λ found. (tables : Tables) →
+            Tells (state S.Store self.old.conn) tables → Kept tables → found.items ≡ orders_back tables serial.now) }
+        ensures answered { HasCleanDisk (state S.Store self.new.conn) → OnOk result (
+            StillTells (state S.Store self.old.conn) (state S.Store self.new.conn)) }
+        ensures refused { HasCleanDisk (state S.Store self.new.conn) → OnErr result (
+            Stays (state S.Store self.old.conn) (state S.Store self.new.conn)) }
+        ensures nothing { WritesNothing (state S.Store self.old.conn) (state S.Store self.new.conn) }
         ensures asked { IfOk result (λ list. All (λ order. order.serial ≡ serial.now) list.items) }
         ensures in_range { IfOk result (λ list. All OrderIsInRange list.items) }
     {
-        let found = query(&mut self.conn, ORDERS_BACK, text(serial))?;
+        let found = columns(find_orders_back(&mut self.conn, serial))?;
         orders_back_found(alloc, found.as_slice(), serial)
     }
 
@@ -116,10 +150,17 @@ impl<S: Alter> TablesOver<S> {
     ///
     /// As for `orders_of`.
     pub fn rows(&mut self, alloc: Global) -> Result<Vec<Row>, Fault>
+        ensures told { HasCleanDisk (state S.Store self.new.conn) → IfOk result (λ found. (tables : Tables) →
+            Tells (state S.Store self.old.conn) tables → Kept tables → found.items ≡ all_rows tables) }
+        ensures answered { HasCleanDisk (state S.Store self.new.conn) → OnOk result (
+            StillTells (state S.Store self.old.conn) (state S.Store self.new.conn)) }
+        ensures refused { HasCleanDisk (state S.Store self.new.conn) → OnErr result (
+            Stays (state S.Store self.old.conn) (state S.Store self.new.conn)) }
+        ensures nothing { WritesNothing (state S.Store self.old.conn) (state S.Store self.new.conn) }
         ensures ordered { IfOk result (λ list. IsTrue (rises row_before list.items)) }
         ensures in_range { IfOk result (λ list. All RowIsInRange list.items) }
     {
-        let found = query_rows(&mut self.conn)?;
+        let found = columns(find_rows(&mut self.conn))?;
         rows_found(alloc, found.as_slice())
     }
 
@@ -129,11 +170,18 @@ impl<S: Alter> TablesOver<S> {
     ///
     /// As for `orders_of`.
     pub fn prices_of(&mut self, alloc: Global, serial: &Name) -> Result<Vec<PriceChange>, Fault>
+        ensures told { HasCleanDisk (state S.Store self.new.conn) → IfOk result (λ found. (tables : Tables) →
+            Tells (state S.Store self.old.conn) tables → Kept tables → found.items ≡ prices_for tables serial.now) }
+        ensures answered { HasCleanDisk (state S.Store self.new.conn) → OnOk result (
+            StillTells (state S.Store self.old.conn) (state S.Store self.new.conn)) }
+        ensures refused { HasCleanDisk (state S.Store self.new.conn) → OnErr result (
+            Stays (state S.Store self.old.conn) (state S.Store self.new.conn)) }
+        ensures nothing { WritesNothing (state S.Store self.old.conn) (state S.Store self.new.conn) }
         ensures asked { IfOk result (λ list. All (λ change. change.serial ≡ serial.now) list.items) }
         ensures ordered { IfOk result (λ list. IsTrue (rises change_before list.items)) }
         ensures in_range { IfOk result (λ list. All ChangeIsInRange list.items) }
     {
-        let found = query(&mut self.conn, PRICES, text(serial))?;
+        let found = columns(find_prices(&mut self.conn, serial))?;
         prices_found(alloc, found.as_slice(), serial)
     }
 
@@ -142,16 +190,16 @@ impl<S: Alter> TablesOver<S> {
     /// # Errors
     ///
     /// `Caused` where the database refuses it, as where the serial has a row; `Memory` where there is none.
-    pub fn add_device(&mut self, row: &Row) -> Result<(), Fault> {
-        if !self.conn.is_autocommit() {
-            return Err(unended());
-        }
-        let mut tx = self.conn.transaction();
-        insert_device(&mut tx, row)?;
-        if row.limit != LAST {
-            insert_raised(&mut tx, &row.serial)?;
-        }
-        tx.commit().map_err(to_fault)
+    pub fn add_device(&mut self, row: &Row) -> Result<(), Fault>
+        ensures done { HasCleanDisk (state S.Store self.new.conn) → OnOk result (
+            Wrote (λ tables. RowIsInRange row.now × (row_of tables row.now.serial ≡ None)) (with_row row.now)
+            (state S.Store self.old.conn) (state S.Store self.new.conn)) }
+        ensures refused { HasCleanDisk (state S.Store self.new.conn) → OnErr result (
+            Stays (state S.Store self.old.conn) (state S.Store self.new.conn)) }
+        ensures whole { WritesWhole (λ tables. RowIsInRange row.now × (row_of tables row.now.serial ≡ None)) (with_row row.now)
+            (state S.Store self.old.conn) (state S.Store self.new.conn) }
+    {
+        written(shop_tables::add_device(&mut self.conn, row))
     }
 
     /// Adds an order, and puts the row in the place of that of its serial, in one transaction.
@@ -160,14 +208,16 @@ impl<S: Alter> TablesOver<S> {
     ///
     /// `Caused` where the database refuses it, as where the id has an order, and where the serial has no row with the limit of
     /// this one; `Memory` where there is none.
-    pub fn add_order(&mut self, order: &Order, row: &Row) -> Result<(), Fault> {
-        if !self.conn.is_autocommit() {
-            return Err(unended());
-        }
-        let mut tx = self.conn.transaction();
-        insert_order(&mut tx, order)?;
-        put_device(&mut tx, row)?;
-        tx.commit().map_err(to_fault)
+    pub fn add_order(&mut self, order: &Order, row: &Row) -> Result<(), Fault>
+        ensures done { HasCleanDisk (state S.Store self.new.conn) → OnOk result (
+            Wrote (λ tables. RowIsInRange row.now × IsSome (row_of tables row.now.serial)) (with_order order.now row.now)
+            (state S.Store self.old.conn) (state S.Store self.new.conn)) }
+        ensures refused { HasCleanDisk (state S.Store self.new.conn) → OnErr result (
+            Stays (state S.Store self.old.conn) (state S.Store self.new.conn)) }
+        ensures whole { WritesWhole (λ tables. RowIsInRange row.now × IsSome (row_of tables row.now.serial))
+            (with_order order.now row.now) (state S.Store self.old.conn) (state S.Store self.new.conn) }
+    {
+        written(shop_tables::add_order(&mut self.conn, order, row))
     }
 
     /// Raises the limit of the row of the serial.
@@ -176,21 +226,32 @@ impl<S: Alter> TablesOver<S> {
     ///
     /// `Caused` where the database refuses it, and where the serial has no row or one that is raised; `Memory` where there is
     /// none.
-    pub fn raise(&mut self, serial: &Name) -> Result<(), Fault> {
+    pub fn raise(&mut self, serial: &Name) -> Result<(), Fault>
+        ensures done { HasCleanDisk (state S.Store self.new.conn) → OnOk result (
+            Wrote (λ tables. IsSome (row_of tables serial.now)) (with_raised serial.now)
+            (state S.Store self.old.conn) (state S.Store self.new.conn)) }
+        ensures refused { HasCleanDisk (state S.Store self.new.conn) → OnErr result (
+            Stays (state S.Store self.old.conn) (state S.Store self.new.conn)) }
+        ensures whole { WritesWhole (λ tables. IsSome (row_of tables serial.now)) (with_raised serial.now)
+            (state S.Store self.old.conn) (state S.Store self.new.conn) }
+    {
         match self.device(serial)? {
             Some(row) if row.limit == LAST => self.write_raised(serial),
             _ => Err(Fault::Caused(Cause::Unwritten)),
         }
     }
 
-    // Raises the limit of a serial that has a row with the lower one.
-    fn write_raised(&mut self, serial: &Name) -> Result<(), Fault> {
-        if !self.conn.is_autocommit() {
-            return Err(unended());
-        }
-        let mut tx = self.conn.transaction();
-        insert_raised(&mut tx, serial)?;
-        tx.commit().map_err(to_fault)
+    // Raises the limit of a serial.
+    fn write_raised(&mut self, serial: &Name) -> Result<(), Fault>
+        ensures done { HasCleanDisk (state S.Store self.new.conn) → OnOk result (
+            Wrote (λ tables. IsSome (row_of tables serial.now)) (with_raised serial.now)
+            (state S.Store self.old.conn) (state S.Store self.new.conn)) }
+        ensures refused { HasCleanDisk (state S.Store self.new.conn) → OnErr result (
+            Stays (state S.Store self.old.conn) (state S.Store self.new.conn)) }
+        ensures whole { WritesWhole (λ tables. IsSome (row_of tables serial.now)) (with_raised serial.now)
+            (state S.Store self.old.conn) (state S.Store self.new.conn) }
+    {
+        written(shop_tables::raise(&mut self.conn, serial))
     }
 
     /// Lifts the last count of the row of the serial.
@@ -199,13 +260,16 @@ impl<S: Alter> TablesOver<S> {
     ///
     /// `Caused` where the database refuses it, and where the serial has no row with a lower last count; `Memory` where there
     /// is none.
-    pub fn skip(&mut self, serial: &Name, to: u16) -> Result<(), Fault> {
-        if !self.conn.is_autocommit() {
-            return Err(unended());
-        }
-        let mut tx = self.conn.transaction();
-        lift(&mut tx, serial, to)?;
-        tx.commit().map_err(to_fault)
+    pub fn skip(&mut self, serial: &Name, to: u16) -> Result<(), Fault>
+        ensures done { HasCleanDisk (state S.Store self.new.conn) → OnOk result (
+            Wrote (λ tables. IsSome (row_of tables serial.now)) (with_lifted to serial.now)
+            (state S.Store self.old.conn) (state S.Store self.new.conn)) }
+        ensures refused { HasCleanDisk (state S.Store self.new.conn) → OnErr result (
+            Stays (state S.Store self.old.conn) (state S.Store self.new.conn)) }
+        ensures whole { WritesWhole (λ tables. IsSome (row_of tables serial.now)) (with_lifted to serial.now)
+            (state S.Store self.old.conn) (state S.Store self.new.conn) }
+    {
+        written(shop_tables::skip(&mut self.conn, serial, to))
     }
 
     /// Adds a change of a price.
@@ -214,131 +278,36 @@ impl<S: Alter> TablesOver<S> {
     ///
     /// `Caused` where the database refuses it, as where the serial has no row, or a change from that count on; `Memory` where
     /// there is none.
-    pub fn add_price(&mut self, change: &PriceChange) -> Result<(), Fault> {
-        if !self.conn.is_autocommit() {
-            return Err(unended());
-        }
-        let mut tx = self.conn.transaction();
-        insert_price(&mut tx, change)?;
-        tx.commit().map_err(to_fault)
+    pub fn add_price(&mut self, change: &PriceChange) -> Result<(), Fault>
+        ensures done { HasCleanDisk (state S.Store self.new.conn) → OnOk result (
+            Wrote (λ _. Unit {0}) (with_change change.now) (state S.Store self.old.conn) (state S.Store self.new.conn)) }
+        ensures refused { HasCleanDisk (state S.Store self.new.conn) → OnErr result (
+            Stays (state S.Store self.old.conn) (state S.Store self.new.conn)) }
+        ensures whole { WritesWhole (λ _. Unit {0}) (with_change change.now)
+            (state S.Store self.old.conn) (state S.Store self.new.conn) }
+    {
+        written(shop_tables::add_price(&mut self.conn, change))
     }
 }
 
-// What a write comes to while another transaction hasn't ended.
-fn unended() -> Fault {
-    to_fault(Error::SqliteFailure(ErrorCode::TransactionState))
-}
-
-// What a write comes to that is to write one row.
-fn one_row(written: Result<usize, Error>) -> Result<(), Fault>
-    ensures { (result ≡ Ok tt) ↔ (written ≡ Ok 1) }
+// What a write came to.
+fn written(outcome: Result<(), Error>) -> Result<(), Fault>
+    ensures ok { (result ≡ Ok tt) ↔ (outcome ≡ Ok tt) }
+    ensures err { (e : _) → outcome ≡ Err e → result ≡ Err (fault_of e) }
 {
-    match written {
-        Ok(1) => Ok(()),
-        Ok(_) => Err(Fault::Caused(Cause::Unwritten)),
+    match outcome {
+        Ok(()) => Ok(()),
         Err(error) => Err(to_fault(error)),
     }
 }
 
-// The name as a text. A name is always one.
-fn text(name: &Name) -> Option<&str> {
-    std::str::from_utf8(name.bytes()).ok()
-}
-
-// The number as the database has it. One that is too great for it would be none, which no column takes.
-fn number(n: u64) -> Option<i64> {
-    i64::try_from(n).ok()
-}
-
-// The columns that a statement finds for a name.
-fn query<S: Alter>(
-    conn: &mut Connection<S>,
-    sql: &str,
-    name: Option<&str>,
-) -> Result<Vec<sqlite::Row>, Fault> {
-    conn.query_all(sql, params![name]).map_err(to_fault)
-}
-
-// The columns of all rows, by serial.
-fn query_rows<S: Alter>(conn: &mut Connection<S>) -> Result<Vec<sqlite::Row>, Fault> {
-    conn.query_all(DEVICES, &[]).map_err(to_fault)
-}
-
-fn insert_device<S: Alter>(tx: &mut Transaction<'_, S>, row: &Row) -> Result<(), Fault> {
-    let key: &[u8] = &row.key;
-    one_row(tx.execute(
-        ADD_DEVICE,
-        params![
-            text(&row.serial),
-            key,
-            row.start,
-            u32::from(row.divider),
-            row.form.length() as i64,
-            number(row.price),
-            number(row.total),
-            number(row.paid),
-            number(row.rest),
-            u32::from(row.last),
-            row.closed,
-        ],
-    ))
-}
-
-fn insert_order<S: Alter>(tx: &mut Transaction<'_, S>, order: &Order) -> Result<(), Fault> {
-    one_row(tx.execute(
-        ADD_ORDER,
-        params![
-            text(&order.id),
-            text(&order.serial),
-            ask_number(order.ask),
-            number(asked_number(order.ask)),
-            kind_number(order.kind),
-            u32::from(order.count),
-            u32::from(order.value),
-            order.token,
-        ],
-    ))
-}
-
-// Puts the row in the place of the one with its serial and its limit.
-fn put_device<S: Alter>(tx: &mut Transaction<'_, S>, row: &Row) -> Result<(), Fault> {
-    let key: &[u8] = &row.key;
-    let raised = row.limit != LAST;
-    one_row(tx.execute(
-        PUT_DEVICE,
-        params![
-            text(&row.serial),
-            key,
-            row.start,
-            u32::from(row.divider),
-            row.form.length() as i64,
-            number(row.price),
-            number(row.total),
-            number(row.paid),
-            number(row.rest),
-            u32::from(row.last),
-            row.closed,
-            raised,
-        ],
-    ))
-}
-
-fn insert_raised<S: Alter>(tx: &mut Transaction<'_, S>, serial: &Name) -> Result<(), Fault> {
-    one_row(tx.execute(RAISE, params![text(serial)]))
-}
-
-// Lifts the last count of the row of a serial, which must be there with a lower one.
-fn lift<S: Alter>(tx: &mut Transaction<'_, S>, serial: &Name, to: u16) -> Result<(), Fault> {
-    one_row(tx.execute(SKIP, params![text(serial), u32::from(to)]))
-}
-
-fn insert_price<S: Alter>(tx: &mut Transaction<'_, S>, change: &PriceChange) -> Result<(), Fault> {
-    one_row(tx.execute(
-        ADD_PRICE,
-        params![
-            text(&change.serial),
-            u32::from(change.from),
-            number(change.price)
-        ],
-    ))
+// What a statement that asks came to.
+fn columns(outcome: Result<Vec<sqlite::Row>, Error>) -> Result<Vec<sqlite::Row>, Fault>
+    ensures ok { IfOk result (λ found. outcome ≡ Ok found) }
+    ensures err { (e : _) → outcome ≡ Err e → result ≡ Err (fault_of e) }
+{
+    match outcome {
+        Ok(found) => Ok(found),
+        Err(error) => Err(to_fault(error)),
+    }
 }

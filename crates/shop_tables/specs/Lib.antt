@@ -1,0 +1,4 @@
+pub mod Schema
+pub mod Stored
+pub mod Telling
+pub mod Sums
